@@ -1,0 +1,11 @@
+pub mod Files
+pub mod Names
+pub mod Worlds
+pub mod Told
+pub mod Moments
+pub mod Causes
+pub mod Readers
+pub mod Places
+pub mod Plain
+pub mod PlainLaws
+pub mod PlainStreams

@@ -1,0 +1,41 @@
+//! A clock in memory.
+ghost use Rattle.std.specs.Prelude.{◌≡◌, ◌+◌, ◌-◌, ◌^◌, ℕ, min};
+
+use crate::Clock;
+use std::marker::Model;
+
+/// A clock that stands at its moment and goes on by its pauses alone, up to 2^64-1 milliseconds.
+#[derive(Drop)]
+pub struct PlainClock {
+    now_ms: u64,
+}
+
+impl Model for PlainClock {
+    ghost Value = { ℕ };
+
+    ghost view = { λ clock. clock.now_ms };
+}
+
+impl PlainClock {
+    /// A clock that stands at this moment, in milliseconds.
+    pub fn make(now_ms: u64) -> Self
+        ensures { result ≡ now_ms }
+    {
+        PlainClock { now_ms }
+    }
+}
+
+impl Clock for PlainClock {
+    fn now_ms(&mut self) -> u64
+        ensures moment { result ≡ self.old }
+        ensures stands { self.new ≡ self.old }
+    {
+        self.now_ms
+    }
+
+    fn pause(&mut self, ms: u64)
+        ensures { self.new ≡ min (self.old + ms) (2 ^ 64 - 1) }
+    {
+        self.now_ms = self.now_ms.saturating_add(ms);
+    }
+}

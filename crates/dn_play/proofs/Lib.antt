@@ -1,0 +1,9 @@
+pub mod Stepping
+pub mod Stepped
+pub mod Answering
+pub mod Marks
+pub mod Progress
+pub mod Opening
+pub mod LastLine
+pub mod OneDisk
+pub mod Judging

@@ -1,0 +1,163 @@
+-- Steps of the four commands, and what their replies say.
+use Rattle.std.proofs.Common.{◌≡◌, ◌<◌, ◌≤◌, inl, inr, ℕ, true, false, List, length, take, Option, None, Some, refl, sym, ◌∙◌, ap, subst, arith, IsSomeAnd, IfSome, nat_lt}
+use Rattle.std.proofs.lemmas.Bool.Decides.{nat_tests}
+use Rattle.std.proofs.lemmas.Option.{same_Some}
+use Rattle.std.proofs.Math.Seq.{take-length}
+use Rattle.disk_model.specs.Worlds.{World, DraftPlace, draft_at}
+use Rattle.disk_model.specs.Causes.{FaultyOne}
+use Rattle.map_model.specs.Cells.{Replica, Cell, absent, final, growing, unsure, waiting}
+use Rattle.map_model.specs.Steps.{Step, start_write, push, finish, read, content, is_waiting, failed, memory, over, no_writer}
+use Rattle.pool_state.specs.declared.start_fault.StartFault.{StartFault}
+use Rattle.pool_state.specs.declared.start_fault.StartFault.TheVariants.{Exists as WasThere, None as WasAbsent, Writing as WasWriting, Waiting as WasWaiting, Unsure as WasUnsure, Failed as HasFailed, Memory as NoMemory}
+use Rattle.pool_state.specs.Answers.{unlimited, start_fault, GivenBetween}
+use Rattle.pool_state.specs.Writers.{Writer, FailedOf}
+use Rattle.pool_state.specs.Readers.{Lends, FaultyReader}
+use Rattle.script_lang.specs.declared.reply.Reply.{Reply}
+use Rattle.script_lang.specs.declared.reply.Reply.TheVariants.{Data, Short}
+use Rattle.script_lang.specs.declared.Line.{Line}
+use Rattle.dn_play.specs.State.{Numbers, RunState, Mark}
+use Rattle.dn_play.specs.Lines.{Does}
+use Rattle.dn_play.specs.Commands.{Trust, any_disks, telling_disks, Says, Gives, begins_writer}
+use Rattle.dn_play.specs.Replies.{refusal_reply}
+use Rattle.dn_play.specs.Standing.{NotGrowing, IsKnown, LineCarried}
+
+-- the reply of a refused start
+says_refusal : (trust : Trust) (fault : StartFault) → Says trust (start_fault fault) (refusal_reply fault)
+says_refusal trust WasThere = refl
+says_refusal trust WasAbsent = refl
+says_refusal trust WasWriting = refl
+says_refusal trust WasWaiting = refl
+says_refusal trust WasUnsure = refl
+says_refusal trust HasFailed = refl
+says_refusal trust NoMemory = refl
+
+pub says_fault : (trust : Trust) (fault : StartFault) (reply : Reply) → reply ≡ refusal_reply fault → Says trust (start_fault fault) reply
+says_fault trust fault reply is = subst (Says trust (start_fault fault)) (sym is) (says_refusal trust fault)
+
+pub is_failed : (fault : StartFault) → start_fault fault ≡ failed → fault ≡ HasFailed
+is_failed WasThere is = absurd cc
+is_failed WasAbsent is = absurd cc
+is_failed WasWriting is = absurd cc
+is_failed WasWaiting is = absurd cc
+is_failed WasUnsure is = absurd cc
+is_failed HasFailed is = refl
+is_failed NoMemory is = absurd cc
+
+pub is_memory : (fault : StartFault) → start_fault fault ≡ memory → fault ≡ NoMemory
+is_memory WasThere is = absurd cc
+is_memory WasAbsent is = absurd cc
+is_memory WasWriting is = absurd cc
+is_memory WasWaiting is = absurd cc
+is_memory WasUnsure is = absurd cc
+is_memory HasFailed is = absurd cc
+is_memory NoMemory is = refl
+
+-- a start that is refused or fails begins no writer
+pub begins_nothing : (stamp need : ℕ) (fault : StartFault) → begins_writer (start_write stamp need) (start_fault fault) ≡ false
+begins_nothing stamp need WasThere = refl
+begins_nothing stamp need WasAbsent = refl
+begins_nothing stamp need WasWriting = refl
+begins_nothing stamp need WasWaiting = refl
+begins_nothing stamp need WasUnsure = refl
+begins_nothing stamp need HasFailed = refl
+begins_nothing stamp need NoMemory = refl
+
+-- a block without a writer takes no piece, and no finish
+pub no_push : (cell : Cell) (piece : List ℕ) → NotGrowing cell → Step unlimited cell (push piece) no_writer cell
+no_push absent piece rests = (refl, refl)
+no_push (final replica) piece rests = (refl, refl)
+no_push (growing stamp base bytes left) piece rests = absurd rests
+no_push (unsure x y cut) piece rests = (refl, refl)
+no_push waiting piece rests = (refl, refl)
+
+pub no_finish : (cell : Cell) → NotGrowing cell → Step unlimited cell finish no_writer cell
+no_finish absent rests = (refl, refl)
+no_finish (final replica) rests = (refl, refl)
+no_finish (growing stamp base bytes left) rests = absurd rests
+no_finish (unsure x y cut) rests = (refl, refl)
+no_finish waiting rests = (refl, refl)
+
+passes : (left n : ℕ) → left < n → nat_lt left n ≡ true
+passes left n past = grind (arith, nat_tests)
+
+fits : (left n : ℕ) → n ≤ left → nat_lt left n ≡ false
+fits left n within = grind (arith, nat_tests)
+
+-- a piece that is too long
+pub over_push : (stamp left : ℕ) (bytes piece : List ℕ) → left < length piece → Step unlimited (growing stamp None bytes left) (push piece) (over left) (growing stamp None bytes left)
+over_push stamp left bytes piece past = rw (passes left (length piece) past) (refl, refl)
+
+-- want of memory
+pub memory_push : (stamp left : ℕ) (bytes piece : List ℕ) → length piece ≤ left → Step unlimited (growing stamp None bytes left) (push piece) memory (growing stamp None bytes left)
+memory_push stamp left bytes piece within = rw (fits left (length piece) within) refl
+
+pub memory_finish : (stamp left : ℕ) (bytes : List ℕ) → Step unlimited (growing stamp None bytes left) finish memory (growing stamp None bytes left)
+memory_finish stamp left bytes = rw (fits left 0 (omega arith)) refl
+
+-- a read that is answered `memory` isn't of a waiting block
+pub no_lack : (cell : Cell) → Step unlimited cell read memory cell → cell ≡ waiting → ⊥
+no_lack cell step is = let it : Step unlimited waiting read memory waiting = subst (λ c. Step unlimited c read memory c) is step in let bad : memory ≡ is_waiting = it.0 in absurd cc
+
+-- the reads of a final block
+module _ (cell : Cell) (replica : Replica) (is : cell ≡ final replica) where
+  pub reads_content : Step unlimited cell read (content replica) cell
+  reads_content = subst (λ c. Step unlimited c read (content replica) c) (sym is) (refl, refl)
+
+  pub reads_failed : Step unlimited cell read failed cell
+  reads_failed = subst (λ c. Step unlimited c read failed c) (sym is) refl
+
+  pub reads_memory : Step unlimited cell read memory cell
+  reads_memory = subst (λ c. Step unlimited c read memory c) (sym is) refl
+
+  pub not_waiting : cell ≡ waiting → ⊥
+  not_waiting waits = let bad : final replica ≡ waiting = sym is ∙ waits in cc
+
+-- what a read gives
+pub gives_data : (told : Option (List World)) (cell : Cell) (stamp stamp' len : ℕ) (told_bytes : Option (List ℕ)) (bytes : List ℕ) → (lent : Lends told cell stamp len told_bytes) → stamp' ≡ stamp →
+    length bytes ≡ len → ((all : List ℕ) → told_bytes ≡ Some all → bytes ≡ take len all) → (trust : Trust) → IsKnown trust told → Gives trust lent.replica (Data stamp' bytes)
+gives_data told cell stamp stamp' len told_bytes bytes lent same whole front any_disks known = (same ∙ lent.stamp_is, whole ∙ lent.len_is)
+gives_data told cell stamp stamp' len told_bytes bytes lent same whole front telling_disks known =
+    let right : bytes ≡ lent.replica.bytes = front lent.replica.bytes (lent.bytes_are known) ∙ ap (λ n. take n lent.replica.bytes) lent.len_is ∙ take-length lent.replica.bytes in
+    ap (λ s. Data s bytes) (same ∙ lent.stamp_is) ∙ ap (λ b. Data lent.replica.stamp b) right
+
+-- a block file that is shorter
+pub gives_short : (told : Option (List World)) (cell : Cell) (stamp len : ℕ) (told_bytes : Option (List ℕ)) (want have : ℕ) → (lent : Lends told cell stamp len told_bytes) →
+    want ≡ len → have < want → ((all : List ℕ) → told_bytes ≡ Some all → have ≡ length all) → (trust : Trust) → IsKnown trust told → Gives trust lent.replica (Short want have)
+gives_short told cell stamp len told_bytes want have lent same less ended any_disks known = (same ∙ lent.len_is, less)
+gives_short told cell stamp len told_bytes want have lent same less ended telling_disks known =
+    let end : have ≡ length lent.replica.bytes = ended lent.replica.bytes (lent.bytes_are known) in absurd (omega (arith, end, same, less, lent.len_is))
+
+-- the draft that failed is one of the writer's
+pub faulty_writer : {T : Type 0} (place : T → DraftPlace) (faults : T → ℕ) (w : Writer) (numbers : Numbers) (b m vol vol' : ℕ) (path path' : List ℕ) → w.block ≡ draft_at b vol path → w.meta ≡ Some (draft_at m vol' path') →
+    GivenBetween numbers.first numbers.last b → GivenBetween numbers.first numbers.last m → FailedOf place faults w → FaultyOne (λ draft. (place draft).number) faults numbers.first numbers.last
+faulty_writer place faults w numbers b m vol vol' path path' block meta block_given meta_given failed_one =
+    elim failed_one.own [
+      | inl is ↦
+          let at : (place failed_one.one).number ≡ b = ap (λ (d : DraftPlace). d.number) (is ∙ block) in
+          record { one = failed_one.one; faulty = failed_one.faulty; since = omega (arith, at, block_given.since); before = omega (arith, at, block_given.before) }
+      | inr is ↦
+          let at : (place failed_one.one).number ≡ m = ap (λ (d : DraftPlace). d.number) (same_Some _ _ (is ∙ meta)) in
+          record { one = failed_one.one; faulty = failed_one.faulty; since = omega (arith, at, meta_given.since); before = omega (arith, at, meta_given.before) }
+    ]
+
+-- a growing cell isn't a waiting one
+pub grows_not : (cell : Cell) (stamp : ℕ) (bytes : List ℕ) (left : ℕ) → cell ≡ growing stamp None bytes left → cell ≡ waiting → ⊥
+grows_not cell stamp bytes left grows waits = let bad : growing stamp None bytes left ≡ waiting = sym grows ∙ waits in cc
+
+-- the reader that failed was lent in this command
+pub faulty_reader : {R : Type 0} (number_of faults_of : R → ℕ) (first last : ℕ) (o : Option R) → IsSomeAnd o (λ r. FaultyReader number_of faults_of (number_of r)) →
+    IfSome o (λ r. GivenBetween first last (number_of r)) → FaultyOne number_of faults_of first last
+faulty_reader number_of faults_of first last None failed_one lent = absurd failed_one
+faulty_reader number_of faults_of first last (Some r) failed_one lent =
+    let at : number_of failed_one.one ≡ number_of r = failed_one.number_is in
+    record { one = failed_one.one; faulty = failed_one.faulty; since = omega (arith, at, lent.since); before = omega (arith, at, lent.before) }
+
+-- a line that is known
+pub carried : {Faulty : ℕ → ℕ → Type 0} {told : Option (List World)} {old : RunState} {before : Mark} {line known_line : Line} {reply : Reply} {after : Mark} {StandsFor : RunState → Type 0} →
+    line ≡ known_line → (new : RunState) → StandsFor new → ((trust : Trust) → IsKnown trust told → Does trust Faulty old before known_line reply new after) →
+    LineCarried Faulty told old before line reply after StandsFor
+carried {Faulty} {told} {old} {before} {line} {known_line} {reply} {after} is new stands does = record {
+  new = new;
+  stands = stands;
+  does = λ trust known. subst (λ l. Does trust Faulty old before l reply new after) (sym is) (does trust known);
+}

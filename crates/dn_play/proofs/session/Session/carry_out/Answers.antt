@@ -1,0 +1,22 @@
+use Rattle.std.proofs.Common.{subst}
+use Rattle.map_model.specs.Steps.{push}
+use Rattle.dn_play.specs.Commands.{CommandStep}
+use Rattle.dn_play.specs.Standing.{faulty_of, mark_of}
+use Rattle.dn_play.proofs.Stepped.{carried}
+use Rattle.dn_play.proofs.session.Session.carry_out.Goals as goal
+
+pub returns-in-Open-clause-step : goal.returns-in-Open-clause-step
+returns-in-Open-clause-step g c state standing = let t = c.open.ensures.step state standing in carried c.in-Open.is t.new t.stands t.step
+
+pub returns-in-Push-clause-step : goal.returns-in-Push-clause-step
+returns-in-Push-clause-step g c state standing =
+    let t = c.push.ensures.step state standing in
+    carried c.in-Push.is t.new t.stands (λ trust known. subst (λ piece. CommandStep trust (faulty_of g.D.Draft.Draft.place g.D.Draft.Draft.faults g.D.Reader.Reader.number g.D.Reader.Reader.faults) state
+    (mark_of g.D.PoolDisks.faults g.D.PoolDisks.next_number g.D.PoolDisks.moment c.args.self.now.pool.disks) c.in-Push.id (push piece) c.push.result t.new
+    (mark_of g.D.PoolDisks.faults g.D.PoolDisks.next_number g.D.PoolDisks.moment c.push.new.self.pool.disks)) c.as_slice.ensures (t.step trust known))
+
+pub returns-in-Finish-clause-step : goal.returns-in-Finish-clause-step
+returns-in-Finish-clause-step g c state standing = let t = c.finish.ensures.step state standing in carried c.in-Finish.is t.new t.stands t.step
+
+pub returns-in-Read-clause-step : goal.returns-in-Read-clause-step
+returns-in-Read-clause-step g c state standing = let t = c.read.ensures.step state standing in carried c.in-Read.is t.new t.stands t.step

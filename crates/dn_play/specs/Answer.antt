@@ -1,0 +1,91 @@
+-- What the answer to one line does, and what the lines of a session do.
+use Rattle.std.specs.Prelude.{◌≡◌, ◌≢◌, ◌⊎◌, ℕ, ◌++◌, List, [], Option, Err, IfSome, ⊤, zero, suc}
+use Rattle.std.specs.Io.KnownBytes.{Appends}
+use Rattle.disk_model.specs.Worlds.{World}
+use Rattle.line_io.specs.declared.lines.ReadFault.{ReadFault}
+use Rattle.line_io.specs.declared.lines.ReadFault.TheVariants.{Source, Limit as LineLimit, Memory}
+use Rattle.script_lang.specs.declared.LineFault.TheVariants.{Bad, Later as NotYet}
+use Rattle.script_lang.specs.declared.Line.{Line}
+use Rattle.script_lang.specs.declared.reply.Reply.{Reply}
+use Rattle.script_lang.specs.Script.{line_of}
+use Rattle.dn_play.specs.declared.ending.Ending.{Ending}
+use Rattle.dn_play.specs.declared.ending.Ending.TheVariants.{Complete, Usage, SourceFault, SinkFault, NoMemory, Outside, OpenFault, Limit, Later}
+use Rattle.dn_play.specs.State.{RunState, Mark, Turn, turn_lines, turn_replies, last_state, last_mark}
+use Rattle.dn_play.specs.Commands.{Trust}
+use Rattle.dn_play.specs.Lines.{Follows}
+use Rattle.dn_play.specs.Standing.{IsKnown}
+use Rattle.dn_play.specs.Script.{Script, script_after, prepend, printed_column}
+use Rattle.dn_play.specs.Session.{Reads, Shows, Writes, WritesReplies, text_of, status_of, last_line}
+
+-- the line's command, if it has one, was carried out, and its reply written
+pub record Answered (Faulty : ℕ → ℕ → Type 0) (told : Option (List World)) (state : RunState) (before after : Mark) (taken taken' : Option (List ℕ)) (text : List ℕ)
+    (StandsFor : RunState → Type 0) : Type 0 where
+  pub turns : List Turn
+  pub says : (number : ℕ) (rest : Script) → script_after number (line_of text) rest ≡ prepend (turn_lines turns) rest
+  pub follows : (trust : Trust) → IsKnown trust told → Follows trust Faulty state before turns
+  pub stands : StandsFor (last_state state turns)
+  pub at_mark : last_mark before turns ≡ after
+  pub written : Appends taken taken' (text_of (turn_replies turns))
+
+-- these are first commands of the line and those behind it
+abbrev pub FirstOfLine : ℕ → List ℕ → List Line → Type 0
+FirstOfLine number text commands = (rest : Script) → (others : List Line) × ((script_after number (line_of text) rest).commands ≡ commands ++ others)
+
+-- what a line says that was not answered
+abbrev pub SaysUpTo : ℕ → List ℕ → List Line → Ending → Type 0
+SaysUpTo number text commands Complete = ⊥
+SaysUpTo number text commands Usage = ⊥
+SaysUpTo number text commands SourceFault = ⊥
+SaysUpTo number text commands SinkFault = FirstOfLine number text commands
+SaysUpTo number text commands NoMemory = FirstOfLine number text commands
+SaysUpTo number text commands (Outside line column) = (commands ≡ []) × (line ≡ number) × ((word : ℕ) × (column ≡ printed_column word) × (line_of text ≡ Err (Bad word)))
+SaysUpTo number text commands OpenFault = ⊥
+SaysUpTo number text commands (Limit line) = ⊥
+SaysUpTo number text commands (Later line) = (commands ≡ []) × (line ≡ number) × (line_of text ≡ Err NotYet)
+
+-- the line was not answered, or not wholly
+pub record Unanswered (Faulty : ℕ → ℕ → Type 0) (told : Option (List World)) (state : RunState) (before after : Mark) (taken taken' : Option (List ℕ)) (number : ℕ) (text : List ℕ)
+    (ending : Ending) : Type 0 where
+  pub turns : List Turn
+  pub shown : List Reply
+  pub says : SaysUpTo number text (turn_lines turns) ending
+  pub follows : (trust : Trust) → IsKnown trust told → Follows trust Faulty state before turns
+  pub at_mark : last_mark before turns ≡ after
+  pub shows : Shows (turn_replies turns) ending shown
+  pub written : WritesReplies ending taken taken' (text_of shown)
+
+-- how a script ends whose line can't be read
+abbrev pub ending_at : ReadFault → ℕ → Ending
+ending_at Source line = SourceFault
+ending_at LineLimit line = Limit line
+ending_at Memory line = NoMemory
+
+-- The lines of a session up to its ending: they follow one another, their replies are written, and they are those of the input.
+pub record Played (Faulty : ℕ → ℕ → Type 0) (told : Option (List World)) (state : RunState) (before after : Mark) (input taken taken' : Option (List ℕ)) (ending : Ending) : Type 0 where
+  pub turns : List Turn
+  pub shown : List Reply
+  pub follows : (trust : Trust) → IsKnown trust told → Follows trust Faulty state before turns
+  pub at_mark : last_mark before turns ≡ after
+  pub read : IfSome input (λ bytes. Reads bytes (turn_lines turns) ending)
+  pub shows : Shows (turn_replies turns) ending shown
+  pub written : WritesReplies ending taken taken' (text_of shown)
+
+-- the last line of the ending is written, or of want of memory for it; where the sink failed or fails, the status is 3
+pub record Closed (ending : Ending) (taken taken' : Option (List ℕ)) (status : ℕ) : Type 0 where
+  pub closing : Ending
+  pub closing_is : (closing ≡ ending) ⊎ ((closing ≡ NoMemory) × (ending ≢ SinkFault))
+  pub status_is : (status ≡ status_of closing) ⊎ (status ≡ 3)
+  pub written : Writes status taken taken' (last_line closing)
+
+-- how the lines of a session may end
+abbrev pub IsOfLines : Ending → Type 0
+IsOfLines Complete = ⊤
+IsOfLines Usage = ⊥
+IsOfLines SourceFault = ⊤
+IsOfLines SinkFault = ⊤
+IsOfLines NoMemory = ⊤
+IsOfLines (Outside line column) = ⊤
+IsOfLines OpenFault = ⊥
+IsOfLines (Limit line) = ⊤
+IsOfLines (Later zero) = ⊥
+IsOfLines (Later (suc line)) = ⊤

@@ -1,0 +1,73 @@
+-- One command on a block: its reply, the cell after it, and the cause of a failure.
+use Rattle.std.specs.Prelude.{ℕ, ◌≡◌, ◌<◌, ◌⊎◌, ◌==◌, ◌&&◌, Bool, true, false, if◌then◌else◌, length}
+use Rattle.disk_model.specs.Causes.{Rose}
+use Rattle.script_lang.specs.declared.reply.Reply.{Reply}
+use Rattle.script_lang.specs.declared.reply.Reply.TheVariants.{Done, Data, Exists, NoBlock, Writing, Waiting, Unsure, OldStamp, Full, TooLong, Failed, Memory, Over, NoWriter, Worn, Short}
+use Rattle.map_model.specs.Cells.{Replica, Cell, waiting, unsure}
+use Rattle.map_model.specs.Steps.{Command, start_write, finish, read, CellsStep}
+use Rattle.map_model.specs.Steps.{Reply as Answer, done, content, exists, no_block, is_writing, is_waiting, is_unsure, old_stamp, full, too_long, failed, memory, over, no_writer, worn}
+use Rattle.pool_state.specs.Answers.{unlimited}
+use Rattle.dn_play.specs.State.{Numbers, RunState, Mark}
+
+-- what is known of the disks: nothing, or that they tell their content
+pub data Trust : Type 0 where
+  any_disks : Trust
+  telling_disks : Trust
+
+-- What a read of a replica replies. Of any disks it is the stamp and as many bytes, or that the block file is shorter.
+abbrev pub Gives : Trust → Replica → Reply → Type 0
+Gives telling_disks replica reply = reply ≡ Data replica.stamp replica.bytes
+Gives any_disks replica (Data stamp bytes) = (stamp ≡ replica.stamp) × (length bytes ≡ length replica.bytes)
+Gives any_disks replica (Short want have) = (want ≡ length replica.bytes) × (have < want)
+Gives any_disks replica reply = ⊥
+
+-- the reply that says an answer
+abbrev pub Says : Trust → Answer → Reply → Type 0
+Says trust (content replica) reply = Gives trust replica reply
+Says trust done reply = reply ≡ Done
+Says trust exists reply = reply ≡ Exists
+Says trust no_block reply = reply ≡ NoBlock
+Says trust is_writing reply = reply ≡ Writing
+Says trust is_waiting reply = reply ≡ Waiting
+Says trust is_unsure reply = reply ≡ Unsure
+Says trust (old_stamp have) reply = reply ≡ OldStamp have
+Says trust (full need free) reply = reply ≡ Full need free
+Says trust (too_long limit) reply = reply ≡ TooLong limit
+Says trust failed reply = reply ≡ Failed
+Says trust memory reply = reply ≡ Memory
+Says trust (over left) reply = reply ≡ Over left
+Says trust no_writer reply = reply ≡ NoWriter
+Says trust worn reply = reply ≡ Worn
+
+-- the disks' own count rose
+abbrev pub DisksFailed : Mark → Mark → Type 0
+DisksFailed before after = Rose before.faults after.faults
+
+-- What failed where a command answers `failed`, by the cell that it leaves. `Faulty first last` says that some draft or
+-- reader failed whose number is one of these; the writer's numbers are those that the command gave which began it.
+-- A push makes no device call, and so never fails. (Later commands: one more case each.)
+abbrev pub FailsBy : (Faulty : ℕ → ℕ → Type 0) (before after : Mark) (writer : Numbers) → Command → Cell → Type 0
+FailsBy Faulty before after writer (start_write stamp need) new = DisksFailed before after × (new ≡ waiting)
+FailsBy Faulty before after writer finish (unsure x y cut) = DisksFailed before after
+FailsBy Faulty before after writer finish new = Faulty writer.first writer.last
+FailsBy Faulty before after writer read new = DisksFailed before after ⊎ Faulty before.next_number after.next_number
+FailsBy Faulty before after writer command new = ⊥
+
+-- whether a command that is answered so begins a writer that stays open
+abbrev pub begins_writer : Command → Answer → Bool
+begins_writer (start_write stamp need) done = true
+begins_writer command answer = false
+
+-- the numbers that a command gave
+abbrev pub given : Mark → Mark → Numbers
+given before after = record { first = before.next_number; last = after.next_number }
+
+-- One command on a block: the reply says the answer of a step of the cells, a failure has its cause, want of memory leaves
+-- files only where a draft's number was given, and only a command that begins a writer changes what is known of the writers.
+pub record CommandStep (trust : Trust) (Faulty : ℕ → ℕ → Type 0) (old : RunState) (before : Mark) (id : ℕ) (command : Command) (reply : Reply) (new : RunState) (after : Mark) : Type 0 where
+  pub answer : Answer
+  pub says : Says trust answer reply
+  pub cells : CellsStep old.cells (record { id = id; room = unlimited; command = command; reply = answer }) new.cells
+  pub fault : answer ≡ failed → FailsBy Faulty before after (old.writers id) command (new.cells id)
+  pub lack : answer ≡ memory → new.cells id ≡ waiting → before.next_number < after.next_number
+  pub writers : (other : ℕ) → new.writers other ≡ (if begins_writer command answer && other == id then given before after else old.writers other)

@@ -1,0 +1,10 @@
+pub mod State
+pub mod Commands
+pub mod Lines
+pub mod Script
+pub mod Session
+pub mod Standing
+pub mod Replies
+pub mod Answer
+pub mod Play
+pub mod Outside

@@ -1,0 +1,27 @@
+-- One line of a script, and the lines of a run.
+use Rattle.std.specs.Prelude.{ℕ, List, [], ◌∷◌, ⊤}
+use Rattle.script_lang.specs.declared.Line.{Line}
+use Rattle.script_lang.specs.declared.Line.TheVariants.{Blank, Open, Push, Finish, Read}
+use Rattle.script_lang.specs.declared.reply.Reply.{Reply}
+use Rattle.map_model.specs.Steps.{start_write, push, finish, read}
+use Rattle.dn_play.specs.State.{RunState, Mark, IsLater, Turn}
+use Rattle.dn_play.specs.Commands.{Trust, CommandStep}
+
+-- what each line does
+abbrev pub Does : Trust → (ℕ → ℕ → Type 0) → RunState → Mark → Line → Reply → RunState → Mark → Type 0
+Does trust Faulty old before (Open id stamp need) reply new after = CommandStep trust Faulty old before id (start_write stamp need) reply new after
+Does trust Faulty old before (Push id piece) reply new after = CommandStep trust Faulty old before id (push piece) reply new after
+Does trust Faulty old before (Finish id) reply new after = CommandStep trust Faulty old before id finish reply new after
+Does trust Faulty old before (Read id) reply new after = CommandStep trust Faulty old before id read reply new after
+Does trust Faulty old before Blank reply new after = ⊥
+
+-- one line: from this state and these counts it gives this reply and goes on to that state and those counts
+pub record LineStep (trust : Trust) (Faulty : ℕ → ℕ → Type 0) (old : RunState) (before : Mark) (line : Line) (reply : Reply) (new : RunState) (after : Mark) : Type 0 where
+  pub counts : IsLater before after
+  pub does : Does trust Faulty old before line reply new after
+
+-- the lines follow one another from this state and these counts on
+abbrev pub Follows : Trust → (ℕ → ℕ → Type 0) → RunState → Mark → List Turn → Type 0
+Follows trust Faulty state mark [] = ⊤
+Follows trust Faulty state mark (turn ∷ turns) =
+    LineStep trust Faulty state mark turn.line turn.reply turn.state turn.mark × Follows trust Faulty turn.state turn.mark turns

@@ -1,0 +1,36 @@
+-- What the words of a run say of its disks.
+use Rattle.std.specs.Prelude.{ℕ, ◌≡◌, Bool, true, false, ◌&&◌, ◌||◌, ◌==◌, nat_lt, List, length, Option, None, Some, ⊤}
+use Rattle.std.specs.List.{list_all}
+use Rattle.std.specs.Option.{option_map_or}
+use Rattle.script_lang.specs.NodeWords.{NodeSaid, node_of}
+use Rattle.dn_play.specs.declared.ending.Ending.{Ending}
+use Rattle.dn_play.specs.declared.ending.Ending.TheVariants.{Complete, Usage, SourceFault, SinkFault, NoMemory, Outside, OpenFault, Limit, Later}
+
+-- as many pools as there are disks, and as many volumes as each of them has
+abbrev pub fit_disks : {D : Type 0} → (D → ℕ) → List D → NodeSaid → Bool
+fit_disks volume_count disks said = (length said.pools == length disks) && list_all (λ d. volume_count d == length said.volumes) disks
+
+-- whether the words are of the form and fit the disks
+abbrev pub words_fit : {D : Type 0} → (D → ℕ) → List (List ℕ) → List D → Bool
+words_fit volume_count words disks = option_map_or (fit_disks volume_count disks) (node_of words) false
+
+-- several pools or volumes, which isn't carried out yet
+abbrev pub names_several : NodeSaid → Bool
+names_several said = nat_lt 1 (length said.pools) || nat_lt 1 (length said.volumes)
+
+-- whether the words name several pools or volumes
+abbrev pub words_are_later : List (List ℕ) → Bool
+words_are_later words = option_map_or names_several (node_of words) false
+
+-- how a run ends whose words aren't carried out: they don't fit, or name several pools or volumes, or there is no memory to read them
+abbrev pub IsJudged : Bool → Bool → Option Ending → Type 0
+IsJudged fit later None = (fit ≡ true) × (later ≡ false)
+IsJudged fit later (Some Complete) = ⊥
+IsJudged fit later (Some Usage) = fit ≡ false
+IsJudged fit later (Some SourceFault) = ⊥
+IsJudged fit later (Some SinkFault) = ⊥
+IsJudged fit later (Some NoMemory) = ⊤
+IsJudged fit later (Some (Outside line column)) = ⊥
+IsJudged fit later (Some OpenFault) = ⊥
+IsJudged fit later (Some (Limit line)) = ⊥
+IsJudged fit later (Some (Later line)) = (line ≡ 0) × (fit ≡ true) × (later ≡ true)

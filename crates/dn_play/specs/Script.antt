@@ -1,0 +1,55 @@
+-- The commands of a script, and how it ends.
+use Rattle.std.specs.Prelude.{ℕ, ◌+◌, if◌then◌else◌, List, [], ◌∷◌, ◌++◌, length, Result, Ok, Err}
+use Rattle.line_io.specs.Lines.{terminated_lines, line_text, passes_limit}
+use Rattle.script_lang.specs.declared.LineFault.{LineFault}
+use Rattle.script_lang.specs.declared.LineFault.TheVariants.{Bad, Later, Memory}
+use Rattle.script_lang.specs.declared.Line.{Line}
+use Rattle.script_lang.specs.declared.Line.TheVariants.{Blank}
+use Rattle.script_lang.specs.Script.{line_of}
+
+-- at the end of the input, at the first line outside the language with the column of the word that does not fit, at the
+-- first line that passes a limit, or at the first one that is not carried out yet
+pub data Stop : Type 0 where
+  AtEnd : Stop
+  AtOutside : (line column : ℕ) → Stop
+  AtLimit : (line : ℕ) → Stop
+  AtLater : (line : ℕ) → Stop
+
+-- the commands before the stop, in order
+pub record Script : Type 0 where
+  pub commands : List Line
+  pub stop : Stop
+
+abbrev pub stops : Stop → Script
+stops stop = record { commands = []; stop = stop }
+
+-- commands, and then a script
+abbrev pub prepend : List Line → Script → Script
+prepend commands rest = record { commands = commands ++ rest.commands; stop = rest.stop }
+
+-- a command and those behind it
+abbrev pub goes_on : Line → Script → Script
+goes_on Blank rest = rest
+goes_on command rest = record { commands = command ∷ rest.commands; stop = rest.stop }
+
+-- the column that is printed: 1, until the whole language is read
+abbrev pub printed_column : ℕ → ℕ
+printed_column column = 1
+
+-- what a line says, and then the lines behind it
+abbrev pub script_after : ℕ → Result Line LineFault → Script → Script
+script_after number (Ok line) rest = goes_on line rest
+script_after number (Err (Bad column)) rest = stops (AtOutside number (printed_column column))
+script_after number (Err Later) rest = stops (AtLater number)
+script_after number (Err Memory) rest = rest
+
+-- the script of the lines behind so many lines and so many bytes
+unfoldable pub script_from : ℕ → ℕ → List (List ℕ) → Script
+script_from number before [] = stops AtEnd
+script_from number before (line ∷ lines) =
+    if passes_limit before line then stops (AtLimit (number + 1))
+    else script_after (number + 1) (line_of (line_text line)) (script_from (number + 1) (before + length line) lines)
+
+-- the script that the bytes are
+abbrev pub script_of : List ℕ → Script
+script_of bytes = script_from 0 0 (terminated_lines bytes)

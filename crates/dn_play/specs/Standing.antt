@@ -1,0 +1,88 @@
+-- When a session stands for the state of a run.
+use Rattle.std.specs.Prelude.{ℕ, ◌≡◌, ◌-◌, List, Option, None, MatchOption, option_map, ⊤, IsSome, nat_eq, ◌⊎◌}
+use Rattle.disk_model.specs.Worlds.{World, DraftPlace}
+use Rattle.disk_model.specs.Causes.{FaultyOne}
+use Rattle.indexmap.specs.IndexMap.{get}
+use Rattle.volume_layout.specs.Paths.{IsBlockId}
+use Rattle.map_model.specs.Cells.{Cell, absent, final, growing, unsure, waiting}
+use Rattle.map_model.specs.Steps.{Command}
+use Rattle.pool_state.specs.declared.entry.Entry.{Entry}
+use Rattle.pool_state.specs.Answers.{GivenBetween}
+use Rattle.pool_state.specs.Books.{entry_at}
+use Rattle.pool_state.specs.Stands.{PoolStands}
+use Rattle.pool_state.specs.Writers.{Writer, WriterStands, writer_of}
+use Rattle.script_lang.specs.declared.reply.Reply.{Reply}
+use Rattle.script_lang.specs.declared.Line.{Line}
+use Rattle.script_lang.specs.declared.Line.TheVariants.{Blank, Open, Push, Finish, Read}
+use Rattle.dn_play.specs.declared.session.Session.{Session}
+use Rattle.dn_play.specs.State.{Numbers, RunState, Mark}
+use Rattle.dn_play.specs.Commands.{Trust, any_disks, telling_disks, CommandStep}
+use Rattle.dn_play.specs.Lines.{Does}
+
+-- the cell has no writer
+abbrev pub NotGrowing : Cell → Type 0
+NotGrowing absent = ⊤
+NotGrowing (final replica) = ⊤
+NotGrowing (growing stamp base bytes left) = ⊥
+NotGrowing (unsure x y cut) = ⊤
+NotGrowing waiting = ⊤
+
+-- an open writer of a block: it belongs to the pool, the cell grows as it does, and its drafts' numbers are among those noted
+pub record OpenWriter (told : Option (List World)) (entries : ℕ → Option Entry) (id : ℕ) (cell : Cell) (numbers : Numbers) (w : Writer) : Type 0 where
+  pub of : w.id ≡ id
+  pub bytes : List ℕ
+  pub grows : cell ≡ growing w.stamp None bytes (w.reserved - w.len)
+  pub stands : WriterStands told entries w bytes
+  pub block_given : GivenBetween numbers.first numbers.last stands.block_number
+  pub meta_given : GivenBetween numbers.first numbers.last stands.meta_number
+
+-- disks, entries and open writers stand for the state of a run
+pub record Standing (told : Option (List World)) (volumes : ℕ) (entries : ℕ → Option Entry) (writers : ℕ → Option Writer) (state : RunState) : Type 0 where
+  pub pool : PoolStands told volumes entries state.cells
+  pub writer : (id : ℕ) → IsBlockId id → MatchOption (writers id) (NotGrowing (state.cells id)) (OpenWriter told entries id (state.cells id) (state.writers id))
+
+-- what must be known of the disks' content
+abbrev pub IsKnown : Trust → Option (List World) → Type 0
+IsKnown any_disks told = ⊤
+IsKnown telling_disks told = IsSome told
+
+-- the counts of a disk
+abbrev pub mark_of : {D : Type 0} → (faults next_number moment : D → ℕ) → D → Mark
+mark_of faults next_number moment disks = record { faults = faults disks; next_number = next_number disks; moment = moment disks }
+
+-- some draft or reader failed whose number is one of these
+abbrev pub faulty_of : {T R : Type 0} → (place : T → DraftPlace) (draft_faults : T → ℕ) (number reader_faults : R → ℕ) → ℕ → ℕ → Type 0
+faulty_of place draft_faults number reader_faults first last =
+    FaultyOne (λ draft. (place draft).number) draft_faults first last ⊎ FaultyOne number reader_faults first last
+
+module _ {D S T R : Type 0} (worlds : D → Option (List World)) (volume_count : D → ℕ) (place : T → DraftPlace) (bytes : T → Option (List ℕ)) where
+  -- the open writer of a block
+  abbrev pub open_writer : Session D S T R → ℕ → Option Writer
+  open_writer session id = option_map (writer_of place bytes) (get nat_eq session.writers.by_block id)
+
+  -- a session stands for the state of a run
+  abbrev pub SessionStands : Session D S T R → RunState → Type 0
+  SessionStands session state =
+      Standing (worlds session.pool.disks) (volume_count session.pool.disks) (entry_at session.pool.map) (open_writer session) state
+
+-- A command was carried out: the session stands for another state, to which the command's step leads, whatever is known of the disks.
+pub record CarriesOut (Faulty : ℕ → ℕ → Type 0) (told : Option (List World)) (old : RunState) (before : Mark) (id : ℕ) (command : Command) (reply : Reply) (after : Mark)
+    (StandsFor : RunState → Type 0) : Type 0 where
+  pub new : RunState
+  pub stands : StandsFor new
+  pub step : (trust : Trust) → IsKnown trust told → CommandStep trust Faulty old before id command reply new after
+
+-- the line asks for something
+abbrev pub IsCommand : Line → Type 0
+IsCommand Blank = ⊥
+IsCommand (Open id stamp need) = ⊤
+IsCommand (Push id piece) = ⊤
+IsCommand (Finish id) = ⊤
+IsCommand (Read id) = ⊤
+
+-- A line was carried out: the session stands for another state, to which the line leads, whatever is known of the disks.
+pub record LineCarried (Faulty : ℕ → ℕ → Type 0) (told : Option (List World)) (old : RunState) (before : Mark) (line : Line) (reply : Reply) (after : Mark)
+    (StandsFor : RunState → Type 0) : Type 0 where
+  pub new : RunState
+  pub stands : StandsFor new
+  pub does : (trust : Trust) → IsKnown trust told → Does trust Faulty old before line reply new after

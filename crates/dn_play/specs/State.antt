@@ -1,0 +1,51 @@
+-- The state of a run, the disks' counts beside it, and the lines that were carried out.
+use Rattle.std.specs.Prelude.{ℕ, ◌≤◌, List, [], ◌∷◌, map}
+use Rattle.script_lang.specs.declared.Line.{Line}
+use Rattle.script_lang.specs.declared.reply.Reply.{Reply}
+use Rattle.map_model.specs.Cells.{Cells}
+
+-- numbers of drafts and readers, from the first on and below the last
+pub record Numbers : Type 0 where
+  pub first : ℕ
+  pub last : ℕ
+
+-- What a run knows: the cells of the pool, and of each block that grows the numbers that the command which began its writer gave.
+pub record RunState : Type 0 where
+  pub cells : Cells
+  pub writers : ℕ → Numbers
+
+-- what the pool's disks have counted: their faults, the number of their next draft or reader, and their moment
+pub record Mark : Type 0 where
+  pub faults : ℕ
+  pub next_number : ℕ
+  pub moment : ℕ
+
+-- none of the three falls
+pub record IsLater (before after : Mark) : Type 0 where
+  pub faults : before.faults ≤ after.faults
+  pub next_number : before.next_number ≤ after.next_number
+  pub moment : before.moment ≤ after.moment
+
+-- a line that was carried out, its reply, and the state and the counts after it
+pub record Turn : Type 0 where
+  pub line : Line
+  pub reply : Reply
+  pub state : RunState
+  pub mark : Mark
+
+-- the state after the last of the lines
+abbrev pub last_state : RunState → List Turn → RunState
+last_state state [] = state
+last_state state (turn ∷ turns) = last_state turn.state turns
+
+-- the counts after the last of the lines
+abbrev pub last_mark : Mark → List Turn → Mark
+last_mark mark [] = mark
+last_mark mark (turn ∷ turns) = last_mark turn.mark turns
+
+-- the lines, and their replies
+abbrev pub turn_lines : List Turn → List Line
+turn_lines turns = map (λ turn. turn.line) turns
+
+abbrev pub turn_replies : List Turn → List Reply
+turn_replies turns = map (λ turn. turn.reply) turns

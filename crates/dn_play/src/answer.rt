@@ -1,0 +1,64 @@
+//! The answer to one line.
+ghost use Rattle.std.specs.Prelude.{◌≡◌, ◌≤◌, OnOk, IfErr, IsErrOf};
+ghost use Rattle.disk_model.specs.Causes.{Rose};
+ghost use Rattle.pool_state.specs.Stands.{GoesOn};
+ghost use Rattle.dn_play.specs.State.{RunState};
+ghost use Rattle.dn_play.specs.Standing.{SessionStands, faulty_of, mark_of};
+ghost use Rattle.dn_play.specs.Answer.{Answered, Unanswered, IsOfLines};
+
+use crate::ending::Ending;
+use crate::session::Session;
+use disk_model::{PoolDisks, Sink};
+use line_io::write_all;
+use script_lang::reply::write_reply;
+use script_lang::{Line, LineFault, read_line};
+use std::alloc::Global;
+
+/// The column that is printed for a line outside the language, until the whole language is read.
+const COLUMN: u64 = 1;
+
+/// Carries out the command of a line, and writes its reply.
+pub fn answer<D: PoolDisks, K: Sink>(
+    alloc: Global,
+    session: &mut Session<D>,
+    sink: &mut K,
+    number: u64,
+    text: &[u8],
+) -> Result<(), Ending>
+    requires stands { (state : RunState) × SessionStands D.worlds D.volume_count D.Draft.place D.Draft.bytes session.old state }
+    requires some_line { 1 ≤ number }
+    ensures ok { (state : RunState) → SessionStands D.worlds D.volume_count D.Draft.place D.Draft.bytes session.old state →
+        OnOk result (Answered (faulty_of D.Draft.place D.Draft.faults D.Reader.number D.Reader.faults) (D.worlds session.old.pool.disks)
+        state (mark_of D.faults D.next_number D.moment session.old.pool.disks) (mark_of D.faults D.next_number D.moment session.new.pool.disks)
+        (K.taken sink.old) (K.taken sink.new) text.now (SessionStands D.worlds D.volume_count D.Draft.place D.Draft.bytes session.new)) }
+    ensures err { (state : RunState) → SessionStands D.worlds D.volume_count D.Draft.place D.Draft.bytes session.old state →
+        IfErr result (λ ending. Unanswered (faulty_of D.Draft.place D.Draft.faults D.Reader.number D.Reader.faults) (D.worlds session.old.pool.disks)
+        state (mark_of D.faults D.next_number D.moment session.old.pool.disks) (mark_of D.faults D.next_number D.moment session.new.pool.disks)
+        (K.taken sink.old) (K.taken sink.new) number text.now ending) }
+    ensures of_lines { IfErr result IsOfLines }
+    ensures goes_on { GoesOn D.worlds D.faults D.next_number D.moment D.volume_count session.old.pool.disks session.new.pool.disks }
+    ensures sink { IsErrOf result Ending.SinkFault → Rose (K.faults sink.old) (K.faults sink.new) }
+    ensures later { K.faults sink.old ≤ K.faults sink.new }
+{
+    let line = match read_line(alloc, text) {
+        Ok(line) => line,
+        Err(LineFault::Bad { .. }) => return Err(Ending::Outside {
+            line: number,
+            column: COLUMN,
+        }),
+        Err(LineFault::Later) => return Err(Ending::Later { line: number }),
+        Err(LineFault::Memory) => return Err(Ending::NoMemory),
+    };
+    let command = match line {
+        Line::Blank => return Ok(()),
+        command => command,
+    };
+    let reply = session.carry_out(alloc, command);
+    let Ok(shown) = write_reply(alloc, &reply) else {
+        return Err(Ending::NoMemory);
+    };
+    match write_all(sink, &shown) {
+        Ok(()) => Ok(()),
+        Err(_) => Err(Ending::SinkFault),
+    }
+}

@@ -1,0 +1,45 @@
+//! The last line of the output, and the status.
+ghost use Rattle.std.specs.Prelude.{◌≡◌, ◌≢◌, ◌≤◌, ◌⊎◌};
+ghost use Rattle.std.specs.Io.KnownBytes.{Appends};
+ghost use Rattle.disk_model.specs.Causes.{Rose};
+ghost use Rattle.line_io.specs.Written.{AppendsFront};
+ghost use Rattle.dn_play.specs.Session.{status_of, Writes};
+ghost use Rattle.dn_play.specs.Answer.{Closed};
+
+use crate::ending::Ending;
+use disk_model::Sink;
+use line_io::write_all;
+use std::alloc::Global;
+
+/// The status of a session whose sink failed.
+const SINK_FAILED: u8 = 3;
+
+/// Writes a last line, and gives the status that it goes with.
+fn end_with<K: Sink>(sink: &mut K, line: &[u8], status: u8) -> u8
+    requires { status ≢ 3 }
+    ensures status { (result ≡ status) ⊎ (result ≡ 3) }
+    ensures written { Writes result (K.taken sink.old) (K.taken sink.new) line.now }
+    ensures sink { result ≡ 3 → Rose (K.faults sink.old) (K.faults sink.new) }
+    ensures later { K.faults sink.old ≤ K.faults sink.new }
+{
+    match write_all(sink, line) {
+        Ok(()) => status,
+        Err(_) => SINK_FAILED,
+    }
+}
+
+/// Writes the last line of an ending, unless it is the sink that failed, and gives the status.
+pub fn close<K: Sink>(alloc: Global, ending: Ending, sink: &mut K) -> u8
+    ensures closed { Closed ending (K.taken sink.old) (K.taken sink.new) result }
+    ensures status { (result ≡ status_of ending) ⊎ (result ≡ 3) ⊎ (result ≡ 4) }
+    ensures sink { result ≡ 3 → (ending ≡ Ending.SinkFault) ⊎ Rose (K.faults sink.old) (K.faults sink.new) }
+    ensures later { K.faults sink.old ≤ K.faults sink.new }
+{
+    if let Ending::SinkFault = ending {
+        return SINK_FAILED;
+    }
+    match ending.last_line(alloc) {
+        Ok(line) => end_with(sink, line.as_bytes(), ending.status()),
+        Err(_) => end_with(sink, b"end memory\n", Ending::NoMemory.status()),
+    }
+}

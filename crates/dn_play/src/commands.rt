@@ -1,0 +1,163 @@
+//! The commands of the lines, each on one block.
+ghost use Rattle.std.specs.Prelude.{◌≡◌, ◌≢◌, ◌≤◌, ◌<◌, ℕ, List, IsOk, None, Some, nat_eq, ◌==◌, if◌then◌else◌};
+ghost use Rattle.indexmap.specs.IndexMap.{get, spare};
+ghost use Rattle.volume_layout.specs.Paths.{IsBlockId};
+ghost use Rattle.map_model.specs.Steps.{start_write, push, finish, read};
+ghost use Rattle.pool_state.specs.Stands.{GoesOn};
+ghost use Rattle.dn_play.specs.State.{RunState};
+ghost use Rattle.dn_play.specs.Replies.{refusal_reply};
+ghost use Rattle.dn_play.specs.Standing.{SessionStands, CarriesOut, LineCarried, IsCommand, faulty_of, mark_of};
+
+use crate::session::Session;
+use disk_model::PoolDisks;
+use pool_state::{ReadEnd, SealFault, StartFault, read_all};
+use script_lang::Line;
+use script_lang::bytes::Bytes;
+use script_lang::reply::Reply;
+use std::alloc::Global;
+use volume_layout::{BlockId, Stamp};
+
+impl<D: PoolDisks> Session<D> {
+    /// Starts a write.
+    pub fn open(&mut self, alloc: Global, id: BlockId, stamp: Stamp, need: u64) -> Reply
+        requires stands { (state : RunState) × SessionStands D.worlds D.volume_count D.Draft.place D.Draft.bytes self.old state }
+        ensures step { (state : RunState) → SessionStands D.worlds D.volume_count D.Draft.place D.Draft.bytes self.old state →
+            CarriesOut (faulty_of D.Draft.place D.Draft.faults D.Reader.number D.Reader.faults) (D.worlds self.old.pool.disks)
+            state (mark_of D.faults D.next_number D.moment self.old.pool.disks) id (start_write stamp need) result (mark_of D.faults D.next_number D.moment self.new.pool.disks)
+            (SessionStands D.worlds D.volume_count D.Draft.place D.Draft.bytes self.new) }
+        ensures goes_on { GoesOn D.worlds D.faults D.next_number D.moment D.volume_count self.old.pool.disks self.new.pool.disks }
+    {
+        if let Some(fault) = self.pool.write_refusal(id) {
+            return refusal_of(fault);
+        }
+        match self.writers.make_room() {
+            Ok(()) => {}
+            Err(_) => return Reply::Memory,
+        }
+        let writer = match self.pool.start_write(alloc, id, stamp, need) {
+            Ok(writer) => writer,
+            Err(fault) => return refusal_of(fault),
+        };
+        self.writers.put(writer);
+        Reply::Done
+    }
+
+    /// Adds a piece to what a writer writes.
+    pub fn push(&mut self, id: BlockId, piece: &[u8]) -> Reply
+        requires stands { (state : RunState) × SessionStands D.worlds D.volume_count D.Draft.place D.Draft.bytes self.old state }
+        ensures step { (state : RunState) → SessionStands D.worlds D.volume_count D.Draft.place D.Draft.bytes self.old state →
+            CarriesOut (faulty_of D.Draft.place D.Draft.faults D.Reader.number D.Reader.faults) (D.worlds self.old.pool.disks)
+            state (mark_of D.faults D.next_number D.moment self.old.pool.disks) id (push piece.now) result (mark_of D.faults D.next_number D.moment self.new.pool.disks)
+            (SessionStands D.worlds D.volume_count D.Draft.place D.Draft.bytes self.new) }
+        ensures goes_on { GoesOn D.worlds D.faults D.next_number D.moment D.volume_count self.old.pool.disks self.new.pool.disks }
+    {
+        let Some(left) = self.writers.room_left(id) else {
+            return Reply::NoWriter;
+        };
+        if piece.len() as u64 > left {
+            return Reply::Over { left };
+        }
+        let mut writer = match self.writers.take(id) {
+            Ok(writer) => writer,
+            Err(reply) => return reply,
+        };
+        match writer.push(piece) {
+            Ok(()) => {
+                self.writers.put(writer);
+                Reply::Done
+            }
+            Err(_) => {
+                self.writers.put(writer);
+                Reply::Memory
+            }
+        }
+    }
+
+    /// Ends a write: makes sure of what was pushed, and publishes it.
+    pub fn finish(&mut self, id: BlockId) -> Reply
+        requires stands { (state : RunState) × SessionStands D.worlds D.volume_count D.Draft.place D.Draft.bytes self.old state }
+        ensures step { (state : RunState) → SessionStands D.worlds D.volume_count D.Draft.place D.Draft.bytes self.old state →
+            CarriesOut (faulty_of D.Draft.place D.Draft.faults D.Reader.number D.Reader.faults) (D.worlds self.old.pool.disks)
+            state (mark_of D.faults D.next_number D.moment self.old.pool.disks) id finish result (mark_of D.faults D.next_number D.moment self.new.pool.disks)
+            (SessionStands D.worlds D.volume_count D.Draft.place D.Draft.bytes self.new) }
+        ensures goes_on { GoesOn D.worlds D.faults D.next_number D.moment D.volume_count self.old.pool.disks self.new.pool.disks }
+    {
+        let writer = match self.writers.take(id) {
+            Ok(writer) => writer,
+            Err(reply) => return reply,
+        };
+        match writer.seal() {
+            Ok(pair) => match self.pool.finish(pair) {
+                Ok(()) => Reply::Done,
+                Err(_) => Reply::Failed,
+            },
+            Err((SealFault::Memory, writer)) => {
+                self.writers.put(writer);
+                Reply::Memory
+            }
+            Err((SealFault::Failed, writer)) => {
+                self.pool.fail_write(writer);
+                Reply::Failed
+            }
+        }
+    }
+
+    /// Reads a replica.
+    pub fn read(&mut self, alloc: Global, id: BlockId) -> Reply
+        requires stands { (state : RunState) × SessionStands D.worlds D.volume_count D.Draft.place D.Draft.bytes self.old state }
+        ensures step { (state : RunState) → SessionStands D.worlds D.volume_count D.Draft.place D.Draft.bytes self.old state →
+            CarriesOut (faulty_of D.Draft.place D.Draft.faults D.Reader.number D.Reader.faults) (D.worlds self.old.pool.disks)
+            state (mark_of D.faults D.next_number D.moment self.old.pool.disks) id read result (mark_of D.faults D.next_number D.moment self.new.pool.disks)
+            (SessionStands D.worlds D.volume_count D.Draft.place D.Draft.bytes self.new) }
+        ensures goes_on { GoesOn D.worlds D.faults D.next_number D.moment D.volume_count self.old.pool.disks self.new.pool.disks }
+    {
+        let pair = match self.pool.start_read(alloc, id) {
+            Ok(pair) => pair,
+            Err(fault) => return refusal_of(fault),
+        };
+        let stamp = pair.stamp.get();
+        match read_all(alloc, pair) {
+            Ok(bytes) => Reply::Data {
+                stamp,
+                bytes: Bytes::new(bytes),
+            },
+            Err(ReadEnd::Failed) => Reply::Failed,
+            Err(ReadEnd::Short { want, have }) => Reply::Short { want, have },
+            Err(ReadEnd::Memory) => Reply::Memory,
+        }
+    }
+
+    /// Carries out the command of a line.
+    pub fn carry_out(&mut self, alloc: Global, line: Line) -> Reply
+        requires command { IsCommand line }
+        requires stands { (state : RunState) × SessionStands D.worlds D.volume_count D.Draft.place D.Draft.bytes self.old state }
+        ensures step { (state : RunState) → SessionStands D.worlds D.volume_count D.Draft.place D.Draft.bytes self.old state →
+            LineCarried (faulty_of D.Draft.place D.Draft.faults D.Reader.number D.Reader.faults) (D.worlds self.old.pool.disks)
+            state (mark_of D.faults D.next_number D.moment self.old.pool.disks) line result (mark_of D.faults D.next_number D.moment self.new.pool.disks)
+            (SessionStands D.worlds D.volume_count D.Draft.place D.Draft.bytes self.new) }
+        ensures goes_on { GoesOn D.worlds D.faults D.next_number D.moment D.volume_count self.old.pool.disks self.new.pool.disks }
+    {
+        match line {
+            Line::Open { id, stamp, need } => self.open(alloc, id, stamp, need),
+            Line::Push { id, hex } => self.push(id, hex.as_slice()),
+            Line::Finish { id } => self.finish(id),
+            Line::Read { id } => self.read(alloc, id),
+            Line::Blank => Reply::Done,
+        }
+    }
+}
+
+/// Why a start was refused, as a reply.
+fn refusal_of(fault: StartFault) -> Reply
+    ensures { result ≡ refusal_reply fault }
+{
+    match fault {
+        StartFault::Exists => Reply::Exists,
+        StartFault::None => Reply::NoBlock,
+        StartFault::Writing => Reply::Writing,
+        StartFault::Waiting => Reply::Waiting,
+        StartFault::Unsure => Reply::Unsure,
+        StartFault::Failed => Reply::Failed,
+        StartFault::Memory => Reply::Memory,
+    }
+}

@@ -1,0 +1,63 @@
+//! How a session ends.
+ghost use Rattle.std.specs.Prelude.{◌≡◌, IfOk, string_bytes};
+ghost use Rattle.dn_play.specs.Session.{status_of, last_line};
+
+use std::alloc::{AllocError, Global};
+
+/// Why a session ended.
+#[derive(Clone, Copy, Debug, PartialEq, Eq)]
+pub enum Ending {
+    /// The input was read to its end.
+    Complete,
+    /// The words of the command line are not of their form.
+    Usage,
+    /// The source failed.
+    SourceFault,
+    /// The sink failed.
+    SinkFault,
+    /// There was no memory.
+    NoMemory,
+    /// This line is outside the language, from a column on.
+    Outside { line: u64, column: u64 },
+    /// The disks failed while the pool was opened.
+    OpenFault,
+    /// This line passes a limit.
+    Limit { line: u64 },
+    /// This line, or where it is 0 the words or the pool's files, isn't carried out yet.
+    Later { line: u64 },
+}
+
+impl Ending {
+    /// The status that the program ends with.
+    pub fn status(self) -> u8
+        ensures { result ≡ status_of self }
+    {
+        match self {
+            Ending::Complete => 0,
+            Ending::Usage => 1,
+            Ending::SourceFault => 2,
+            Ending::SinkFault => 3,
+            Ending::NoMemory => 4,
+            Ending::Outside { .. } => 5,
+            Ending::OpenFault => 6,
+            Ending::Limit { .. } => 7,
+            Ending::Later { .. } => 8,
+        }
+    }
+
+    /// The last line of the output.
+    pub fn last_line(self, alloc: Global) -> Result<String, AllocError>
+        ensures { IfOk result (λ line. string_bytes line ≡ last_line self) }
+    {
+        match self {
+            Ending::Complete | Ending::SinkFault => Ok(String::new(alloc)),
+            Ending::Usage => format!(in alloc; "end usage\n"),
+            Ending::SourceFault => format!(in alloc; "end source\n"),
+            Ending::NoMemory => format!(in alloc; "end memory\n"),
+            Ending::Outside { line, column } => format!(in alloc; "end line {line} {column}\n"),
+            Ending::OpenFault => format!(in alloc; "end open\n"),
+            Ending::Limit { line } => format!(in alloc; "end limit {line}\n"),
+            Ending::Later { line } => format!(in alloc; "end later {line}\n"),
+        }
+    }
+}

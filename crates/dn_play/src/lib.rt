@@ -1,0 +1,16 @@
+//! The program `dnplay`: a script in, the replies out.
+#![tactic(auto)]
+
+mod answer;
+mod closing;
+mod commands;
+pub mod ending;
+mod lines;
+mod open_writers;
+mod playing;
+mod pool_run;
+mod session;
+mod words;
+mod writers;
+
+pub use playing::{Played, play};

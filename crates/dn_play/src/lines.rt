@@ -1,0 +1,72 @@
+//! A script from its first line to its end.
+ghost use Rattle.std.specs.Prelude.{◌≡◌, ◌≤◌};
+ghost use Rattle.std.specs.Io.KnownBytes.{IsAtEnd};
+ghost use Rattle.disk_model.specs.Causes.{Rose};
+ghost use Rattle.pool_state.specs.Stands.{GoesOn};
+ghost use Rattle.dn_play.specs.State.{RunState};
+ghost use Rattle.dn_play.specs.Standing.{SessionStands, faulty_of, mark_of};
+ghost use Rattle.dn_play.specs.Answer.{Played, IsOfLines, ending_at};
+
+use crate::answer::answer;
+use crate::ending::Ending;
+use crate::session::Session;
+use disk_model::{PoolDisks, Sink, Source};
+use line_io::{LineReader, ReadFault};
+use std::alloc::Global;
+
+/// How many bytes are asked of the source at a time.
+const PIECE: usize = 65_536;
+
+/// How a script ends whose line can't be read.
+fn ending_of(fault: ReadFault, line: u64) -> Ending
+    ensures { result ≡ ending_at fault line }
+{
+    match fault {
+        ReadFault::Source => Ending::SourceFault,
+        ReadFault::Limit => Ending::Limit { line },
+        ReadFault::Memory => Ending::NoMemory,
+    }
+}
+
+/// Carries out the lines of the source, up to the last line of the output.
+pub fn play_lines<D: PoolDisks, S: Source, K: Sink>(
+    alloc: Global,
+    session: &mut Session<D>,
+    source: &mut S,
+    sink: &mut K,
+) -> Ending
+    requires stands { (state : RunState) × SessionStands D.worlds D.volume_count D.Draft.place D.Draft.bytes session.old state }
+    ensures played { (state : RunState) → SessionStands D.worlds D.volume_count D.Draft.place D.Draft.bytes session.old state →
+        Played (faulty_of D.Draft.place D.Draft.faults D.Reader.number D.Reader.faults) (D.worlds session.old.pool.disks)
+        state (mark_of D.faults D.next_number D.moment session.old.pool.disks) (mark_of D.faults D.next_number D.moment session.new.pool.disks)
+        (S.left source.old) (K.taken sink.old) (K.taken sink.new) result }
+    ensures goes_on { GoesOn D.worlds D.faults D.next_number D.moment D.volume_count session.old.pool.disks session.new.pool.disks }
+    ensures of_lines { IsOfLines result }
+    ensures at_end { result ≡ Ending.Complete → IsAtEnd (S.left source.new) }
+    ensures source { result ≡ Ending.SourceFault → Rose (S.faults source.old) (S.faults source.new) }
+    ensures sink { result ≡ Ending.SinkFault → Rose (K.faults sink.old) (K.faults sink.new) }
+    ensures later_source { S.faults source.old ≤ S.faults source.new }
+    ensures later_sink { K.faults sink.old ≤ K.faults sink.new }
+{
+    let Ok(buffer) = vec![in alloc; 0u8; PIECE] else {
+        return Ending::NoMemory;
+    };
+    let mut reader = LineReader::new(buffer);
+    let mut text = Vec::new(alloc);
+    let mut number = 0u64;
+    'lines: loop {
+        let line = number + 1;
+        let found = match reader.next_line(source, &mut text) {
+            Ok(found) => found,
+            Err(fault) => return ending_of(fault, line),
+        };
+        if !found {
+            return Ending::Complete;
+        }
+        match answer(alloc, session, sink, line, &text) {
+            Ok(()) => {}
+            Err(ending) => return ending,
+        }
+        number = line;
+    }
+}

@@ -1,0 +1,72 @@
+//! A script over the disks of one pool, up to the last line of the output.
+ghost use Rattle.std.specs.Prelude.{◌≡◌, ◌≤◌};
+ghost use Rattle.std.specs.Io.KnownBytes.{IsAtEnd};
+ghost use Rattle.disk_model.specs.Causes.{Rose};
+ghost use Rattle.disk_model.specs.Told.{InEachWorld};
+ghost use Rattle.map_model.specs.World.{DraftsAside};
+ghost use Rattle.dn_play.specs.Standing.{faulty_of, mark_of};
+ghost use Rattle.dn_play.specs.Play.{RunsPool};
+
+use crate::ending::Ending;
+use crate::lines::play_lines;
+use crate::open_writers::OpenWriters;
+use crate::session::Session;
+use disk_model::{PoolDisks, Sink, Source};
+use pool_open::{OpenFault, open_pool};
+use pool_state::close_pool;
+use std::alloc::Global;
+
+/// How a script ended, and the disks that were given back.
+#[derive(Drop)]
+pub struct PoolRun<D: Drop> {
+    pub ending: Ending,
+    pub disks: D,
+}
+
+/// Opens the pool of these disks, and carries out the lines of the source.
+pub fn play_pool<D: PoolDisks, S: Source, K: Sink>(
+    alloc: Global,
+    disks: D,
+    source: &mut S,
+    sink: &mut K,
+) -> PoolRun<D>
+    requires aside { InEachWorld (D.worlds disks) DraftsAside }
+    requires one_volume { D.volume_count disks ≡ 1 }
+    ensures runs { RunsPool (faulty_of D.Draft.place D.Draft.faults D.Reader.number D.Reader.faults)
+        (record {
+          entry = mark_of D.faults D.next_number D.moment disks;
+          exit = mark_of D.faults D.next_number D.moment result.disks;
+          told = D.worlds disks;
+          input = S.left source.old;
+        }) (K.taken sink.old) (K.taken sink.new) result.ending }
+    ensures at_end { result.ending ≡ Ending.Complete → IsAtEnd (S.left source.new) }
+    ensures source { result.ending ≡ Ending.SourceFault → Rose (S.faults source.old) (S.faults source.new) }
+    ensures sink { result.ending ≡ Ending.SinkFault → Rose (K.faults sink.old) (K.faults sink.new) }
+    ensures later_sink { K.faults sink.old ≤ K.faults sink.new }
+    ensures volumes { D.volume_count result.disks ≡ D.volume_count disks }
+{
+    let pool = match open_pool(alloc, disks) {
+        Ok(pool) => pool,
+        Err(OpenFault::Failed(disks)) => return PoolRun {
+            ending: Ending::OpenFault,
+            disks,
+        },
+        Err(OpenFault::Memory(disks)) => return PoolRun {
+            ending: Ending::NoMemory,
+            disks,
+        },
+        Err(OpenFault::Later(disks)) => return PoolRun {
+            ending: Ending::Later { line: 0 },
+            disks,
+        },
+    };
+    let mut session = Session {
+        pool,
+        writers: OpenWriters::new(alloc),
+    };
+    let ending = play_lines(alloc, &mut session, source, sink);
+    PoolRun {
+        ending,
+        disks: close_pool(session.pool),
+    }
+}

@@ -1,0 +1,13 @@
+pub mod World
+pub mod Checksums
+pub mod ChecksumLaws
+pub mod Cells
+pub mod Copies
+pub mod Steps
+pub mod Allows
+pub mod Slots
+pub mod Stands
+pub mod Tenures
+pub mod Laws
+pub mod StepLaws
+pub mod TenureLaws

@@ -1,0 +1,306 @@
+//! The disks of a pool over real directories, one for each volume.
+//!
+//! The pool's files stand on a volume under `current/POOL`, and below that at the paths of the calls. Trusted is what
+//! `durable` and `os_files` say of the system, and that nobody else changes these directories. Nothing is told of what
+//! they hold; each failed call, and each file that was looked for and absent, is counted.
+ghost use Rattle.std.specs.Prelude.{◌≡◌, ◌≤◌, None, IfOk, IsTrue, All, length};
+ghost use Rattle.disk_model.specs.Names.{IsBelow, IsInOrder};
+ghost use Rattle.disk_model.specs.Causes.{Rose};
+ghost use Rattle.os_disks.specs.Untold.{untold_is_disk, untold_stands_within, untold_leaves_nothing};
+
+use crate::durable;
+use crate::os_files::{OsDraft, OsReader, OsSealed};
+use disk_model::{DiskError, Failed, Names, PoolDisks};
+use std::alloc::{AllocError, Global};
+use std::fs::File;
+use std::io::ErrorKind;
+use std::{fs, io, mem};
+
+/// The longest path of a call, in bytes.
+const LONGEST_PATH: usize = 96;
+
+/// The disks of one pool.
+#[derive(Drop)]
+pub struct OsDisks {
+    rt: HostRuntime,
+    roots: Vec<String>,
+    path: String,
+    other: String,
+    next_number: u64,
+    faults: u64,
+    absences: u64,
+    is_unmade: bool,
+    ghost some: { 1 ≤ length roots.items },
+    ghost limit: { length roots.items ≤ 64 },
+}
+
+/// The directories of a pool, one for each volume.
+fn pool_roots(alloc: Global, pool: &str, dirs: &[&str]) -> Result<Vec<String>, AllocError>
+    ensures { IfOk result (λ roots. length roots.items ≡ length dirs.now) }
+{
+    let mut roots = Vec::new(alloc);
+    for dir in dirs {
+        roots.push(format!(in alloc; "{dir}/current/{pool}")?)?;
+    }
+    Ok(roots)
+}
+
+/// Makes the directories that are absent, and answers whether all stand.
+fn make_all(rt: &HostRuntime, roots: &[String]) -> bool {
+    let mut are_made = true;
+    for root in roots {
+        are_made = durable::make_directory(rt, root.as_str()).is_ok() && are_made;
+    }
+    are_made
+}
+
+/// A buffer for the real paths of these directories' files.
+fn path_buffer(alloc: Global, roots: &[String]) -> Result<String, AllocError> {
+    let longest = roots.iter().map(|root| root.len()).max().unwrap_or(0);
+    String::with_capacity(alloc, longest.saturating_add(LONGEST_PATH + 2))
+}
+
+/// Puts the real path of a pool's file into a buffer. It takes no memory beyond that of the buffer.
+fn join(buffer: &mut String, roots: &[String], vol: u8, path: &str) -> Result<(), Failed> {
+    buffer.clear();
+    let Some(root) = roots.get(usize::from(vol).wrapping_sub(1)) else {
+        return Err(Failed);
+    };
+    if path.len() > LONGEST_PATH
+        || buffer.push_str(root.as_str()).is_err()
+        || buffer.push('/').is_err()
+        || buffer.push_str(path).is_err()
+    {
+        return Err(Failed);
+    }
+    Ok(())
+}
+
+/// Want of memory, or a call that failed.
+fn disk_error(error: io::Error) -> DiskError {
+    if error.kind() == ErrorKind::OutOfMemory {
+        DiskError::Memory
+    } else {
+        DiskError::Failed
+    }
+}
+
+/// The names of the files of a directory, in no order. Those of other things, as directories, are passed over.
+fn file_names(rt: &HostRuntime, alloc: Global, dir: &str) -> Result<Vec<String>, DiskError> {
+    let mut names = Vec::new(alloc);
+    let entries = match fs::read_dir(rt, dir) {
+        Ok(entries) => entries,
+        Err(error) if error.kind() == ErrorKind::NotFound => return Ok(names),
+        Err(error) => return Err(disk_error(error)),
+    };
+    for entry in entries {
+        let entry = entry.map_err(disk_error)?;
+        if entry.file_type().map_err(disk_error)?.is_file() {
+            names.push(String::from_str(alloc, entry.file_name())?)?;
+        }
+    }
+    Ok(names)
+}
+
+/// Whether a name comes after the last of these, and so after all.
+#[tactic(auto, using(crate::proofs::NameOrder::after_last))]
+fn is_after_last(names: &Names, name: &str) -> bool
+    ensures { IsTrue result → IsInOrder names.now → All (λ earlier. IsBelow earlier name.now) names.now }
+{
+    match names.len().checked_sub(1) {
+        Some(last) => names.get(last) < name,
+        None => true,
+    }
+}
+
+/// The names in order, each once.
+fn in_order(alloc: Global, mut texts: Vec<String>) -> Result<Names, AllocError>
+    ensures { IfOk result (λ names. IsInOrder names) }
+{
+    texts.sort_unstable();
+    let mut names = Names::make(alloc);
+    for text in &texts {
+        if is_after_last(&names, text.as_str()) {
+            names.push(text.as_str())?;
+        }
+    }
+    Ok(names)
+}
+
+impl OsDisks {
+    /// The disks of a pool on volumes in these directories, in which its own are made where they are absent. Where one
+    /// can't be made the first listing fails.
+    pub fn open(rt: HostRuntime, pool: &str, dirs: &[&str]) -> Result<OsDisks, AllocError>
+        requires some { 1 ≤ length dirs.now }
+        requires limit { length dirs.now ≤ 64 }
+        ensures volumes { IfOk result (λ disks. ⟦<OsDisks as PoolDisks>⟧.volume_count disks ≡ length dirs.now) }
+    {
+        let alloc = rt.alloc();
+        let roots = pool_roots(alloc, pool, dirs)?;
+        let path = path_buffer(alloc, roots.as_slice())?;
+        let other = path_buffer(alloc, roots.as_slice())?;
+        let is_unmade = !make_all(&rt, roots.as_slice());
+        Ok(OsDisks {
+            rt,
+            roots,
+            path,
+            other,
+            next_number: 0,
+            faults: 0,
+            absences: 0,
+            is_unmade,
+        })
+    }
+
+    /// Counts a call that failed.
+    fn fail(&mut self) -> Failed
+        ensures rose { Rose self.old.faults self.new.faults }
+        ensures later { self.old.faults ≤ self.new.faults }
+        ensures rest { self.new ≡ record self.old { faults = self.new.faults } }
+    {
+        self.faults = self.faults.saturating_add(1);
+        Failed
+    }
+
+    /// Counts a call that failed, of those that may want memory too.
+    fn fail_disk(&mut self) -> DiskError
+        ensures rose { Rose self.old.faults self.new.faults }
+        ensures later { self.old.faults ≤ self.new.faults }
+        ensures rest { self.new ≡ record self.old { faults = self.new.faults } }
+        ensures failed { result ≡ DiskError.Failed }
+    {
+        self.fail();
+        DiskError::Failed
+    }
+}
+
+impl PoolDisks for OsDisks {
+    type Sealed = OsSealed;
+
+    type Draft = OsDraft;
+
+    type Reader = OsReader;
+
+    ghost worlds = { λ d. None };
+
+    ghost moment = { λ d. 0 };
+
+    ghost left_since = { λ d t image. ⊥ };
+
+    ghost faults = { λ d. d.faults };
+
+    ghost absences = { λ d. d.absences };
+
+    ghost next_number = { λ d. d.next_number };
+
+    ghost volume_count = { λ d. length d.roots.items };
+
+    ghost is_disk = { λ d. untold_is_disk d.next_number };
+
+    ghost within = { λ d. untold_stands_within (length d.roots.items) };
+
+    ghost counts_now = { λ d t image early leaves. untold_leaves_nothing image leaves };
+
+    ghost only_now = { λ d image left. absurd left };
+
+    fn volumes(&self) -> u8 {
+        self.roots.len() as u8
+    }
+
+    fn list(&mut self, alloc: Global, vol: u8, dir: &str) -> Result<Names, DiskError> {
+        let is_unmade = mem::replace(&mut self.is_unmade, false);
+        if is_unmade || join(&mut self.path, self.roots.as_slice(), vol, dir).is_err() {
+            return Err(self.fail_disk());
+        }
+        match file_names(&self.rt, alloc, self.path.as_str()) {
+            Ok(names) => Ok(in_order(alloc, names)?),
+            Err(DiskError::Memory) => Err(DiskError::Memory),
+            Err(DiskError::Failed) => Err(self.fail_disk()),
+        }
+    }
+
+    fn size(&mut self, vol: u8, path: &str) -> Result<Option<u64>, Failed> {
+        if join(&mut self.path, self.roots.as_slice(), vol, path).is_err() {
+            return Err(self.fail());
+        }
+        match fs::metadata(&self.rt, self.path.as_str()) {
+            Ok(metadata) => Ok(Some(metadata.len())),
+            Err(error) if error.kind() == ErrorKind::NotFound => {
+                self.absences = self.absences.saturating_add(1);
+                Ok(None)
+            }
+            Err(_) => Err(self.fail()),
+        }
+    }
+
+    fn lend_reader(
+        &mut self,
+        _alloc: Global,
+        vol: u8,
+        path: &str,
+    ) -> Result<Option<OsReader>, DiskError> {
+        let number = self.next_number;
+        if number == u64::MAX || join(&mut self.path, self.roots.as_slice(), vol, path).is_err() {
+            return Err(self.fail_disk());
+        }
+        match File::open(&self.rt, self.path.as_str()) {
+            Ok(file) => {
+                self.next_number += 1;
+                Ok(Some(OsReader {
+                    number,
+                    file,
+                    faults: 0,
+                }))
+            }
+            Err(error) if error.kind() == ErrorKind::NotFound => {
+                self.absences = self.absences.saturating_add(1);
+                Ok(None)
+            }
+            Err(_) => Err(self.fail_disk()),
+        }
+    }
+
+    fn create(&mut self, alloc: Global, vol: u8, path: &str) -> Result<OsDraft, DiskError> {
+        let number = self.next_number;
+        if number == u64::MAX || join(&mut self.path, self.roots.as_slice(), vol, path).is_err() {
+            return Err(self.fail_disk());
+        }
+        let path = String::from_str(alloc, path)?;
+        let Ok(file) = durable::create(&self.rt, self.path.as_str()) else {
+            return Err(self.fail_disk());
+        };
+        self.next_number += 1;
+        Ok(OsDraft {
+            place: OsSealed { number, vol, path },
+            file,
+            faults: 0,
+        })
+    }
+
+    fn publish(&mut self, sealed: OsSealed, path: &str) -> Result<(), Failed> {
+        let OsSealed {
+            vol,
+            path: from,
+            ..
+        } = sealed;
+        if join(&mut self.path, self.roots.as_slice(), vol, from.as_str()).is_err()
+            || join(&mut self.other, self.roots.as_slice(), vol, path).is_err()
+            || durable::rename(&self.rt, self.path.as_str(), self.other.as_str()).is_err()
+        {
+            return Err(self.fail());
+        }
+        Ok(())
+    }
+
+    fn remove(&mut self, vol: u8, path: &str) -> Result<(), Failed> {
+        if join(&mut self.path, self.roots.as_slice(), vol, path).is_err()
+            || durable::remove(&self.rt, self.path.as_str()).is_err()
+        {
+            return Err(self.fail());
+        }
+        Ok(())
+    }
+}
+
+#[cfg(test)]
+mod tests;

@@ -1,0 +1,3 @@
+pub mod ReplicaNames
+pub mod Remaining
+pub mod Outcome

@@ -1,0 +1,84 @@
+//! Openings of disks in memory.
+ghost use Rattle.std.specs.Prelude.{◌≡◌, codes, OnOk};
+ghost use Rattle.disk_model.specs.Told.{InEachWorld, NoDraftAt};
+ghost use Rattle.map_model.specs.World.{DraftsAside};
+
+use super::*;
+use disk_model::{DiskError, Draft, Failed, PlainDisks, PoolDisks};
+use std::alloc::Global;
+use std::process::Abort;
+use std::test::Fail;
+
+/// What an opening answered.
+#[derive(Clone, Copy, Debug, PartialEq, Eq)]
+enum Answer {
+    Opened,
+    Failed,
+    Memory,
+    Later,
+}
+
+use Answer::{Later, Opened};
+
+// Puts an empty file at a path of volume 1.
+fn put_file<D: PoolDisks>(alloc: Global, disks: &mut D, path: &str) -> Result<(), DiskError>
+    requires one_volume { D.volume_count disks.old ≡ 1 }
+    requires free { NoDraftAt (D.worlds disks.old) 1 (codes "tmp/draft") }
+    requires aside { InEachWorld (D.worlds disks.old) DraftsAside }
+    ensures one_volume { D.volume_count disks.new ≡ 1 }
+    ensures aside { OnOk result (InEachWorld (D.worlds disks.new) DraftsAside) }
+{
+    let draft = disks.create(alloc, 1, "tmp/draft")?;
+    let sealed = match draft.seal() {
+        Ok(sealed) => sealed,
+        Err(_) => return Err(DiskError::Failed),
+    };
+    match disks.publish(sealed, path) {
+        Ok(()) => Ok(()),
+        Err(Failed) => Err(DiskError::Failed),
+    }
+}
+
+// What the opening of these disks answers.
+fn opened<D: PoolDisks>(alloc: Global, disks: D) -> Answer
+    requires aside { InEachWorld (D.worlds disks) DraftsAside }
+    requires one_volume { D.volume_count disks ≡ 1 }
+{
+    match open_pool(alloc, disks) {
+        Ok(_) => Answer::Opened,
+        Err(OpenFault::Failed(_)) => Answer::Failed,
+        Err(OpenFault::Memory(_)) => Answer::Memory,
+        Err(OpenFault::Later(_)) => Answer::Later,
+    }
+}
+
+// What the opening of disks with this one file answers.
+fn opened_with(alloc: Global, path: &str) -> Result<Answer, DiskError> {
+    let mut disks = PlainDisks::make(alloc, 1);
+    put_file(alloc, &mut disks, path)?;
+    Ok(opened(alloc, disks))
+}
+
+#[test]
+fn a_pool_opens_unless_it_holds_a_file_of_a_block(rt: HostRuntime) -> Result<(), Fail> {
+    let alloc = rt.alloc();
+    assert_eq!(rt; opened(alloc, PlainDisks::make(alloc, 1)), Opened);
+    for (path, answer) in [
+        ("current/rbw/blk_5", Later),
+        ("tmp/blk_5", Later),
+        // the block's own directory is another one
+        ("current/finalized/subdir31/subdir31/blk_5_1001.meta", Later),
+        (
+            "current/finalized/subdir0/subdir0/blk_9223372036854775807",
+            Later,
+        ),
+        ("current/rbw/junk", Opened),
+        ("tmp/blk_05", Opened),
+        ("current/finalized/subdir0/subdir0/blk_5.meta", Opened),
+        ("current/finalized/subdir32/subdir0/blk_5", Opened),
+        ("current/finalized/blk_5", Opened),
+    ] {
+        assert_eq!(rt; opened_with(alloc, path), Ok(answer), "at {path}");
+    }
+    Ok(())
+}

@@ -1,0 +1,7 @@
+use Rattle.std.proofs.Common.{sym, subst}
+use Rattle.pool_state.specs.Stands.{HoldNoBlock}
+use Rattle.pool_state.proofs.EmptyDisks.{empty_disks}
+use Rattle.pool_state.proofs.tests.empty_pool.Goals as goal
+
+pub make_pool-requires-clause-empty : goal.make_pool-requires-clause-empty
+make_pool-requires-clause-empty g = subst HoldNoBlock (sym g.make.ensures.empty) empty_disks

@@ -1,0 +1,74 @@
+-- What a tenure answers, and the step that it takes.
+use Rattle.std.specs.Prelude.{ℕ, ◌≤◌, ◌<◌, ◌^◌, false, List, Option, Result, Ok, Err, IsSomeAnd}
+use Rattle.disk_model.specs.Worlds.{World}
+use Rattle.map_model.specs.Cells.{Cell, Cells}
+use Rattle.map_model.specs.Steps.{Command, Room, Step}
+use Rattle.map_model.specs.Steps.{Reply, done, exists, no_block, is_writing, is_waiting, is_unsure, failed, memory}
+use Rattle.pool_state.specs.declared.start_fault.StartFault.{StartFault}
+use Rattle.pool_state.specs.declared.start_fault.StartFault.TheVariants.{Exists, None as NoBlock, Writing, Waiting, Unsure, Failed, Memory}
+use Rattle.pool_state.specs.declared.entry.Entry.{Entry}
+use Rattle.pool_state.specs.declared.entry.State.{State}
+use Rattle.pool_state.specs.declared.entry.State.TheVariants.{Finalised, Writing as InWriting, Unsure as InDoubt, Waiting as InWaiting}
+use Rattle.pool_state.specs.Stands.{with_cell, PoolStands}
+
+-- the room of a pool that counts none yet: every length fits
+abbrev pub unlimited : Room
+unlimited = record { limit = 2 ^ 64; free = 2 ^ 64; own_free = 2 ^ 64; is_worn = false }
+
+-- the reply that a refused or failed start is
+abbrev pub start_fault : StartFault → Reply
+start_fault Exists = exists
+start_fault NoBlock = no_block
+start_fault Writing = is_writing
+start_fault Waiting = is_waiting
+start_fault Unsure = is_unsure
+start_fault Failed = failed
+start_fault Memory = memory
+
+-- why a block whose entry is in this state can't be written
+abbrev pub write_fault : State → StartFault
+write_fault Finalised = Exists
+write_fault (InWriting block meta) = Writing
+write_fault InDoubt = Unsure
+write_fault InWaiting = Waiting
+
+-- why a block whose entry is in this state can't be read, unless it is that of a replica
+abbrev pub read_fault : State → StartFault
+read_fault Finalised = NoBlock
+read_fault (InWriting block meta) = Writing
+read_fault InDoubt = Unsure
+read_fault InWaiting = Waiting
+
+-- the reply that the answer of a start is
+abbrev pub start_reply : {W : Type 0} → Result W StartFault → Reply
+start_reply (Ok writer) = done
+start_reply (Err fault) = start_fault fault
+
+-- A tenure takes a step of the cells: the block's cell becomes one that the command, answered so, may leave and of which more
+-- is said, and disks and entries stand for the cells then.
+pub record TakesStep (id : ℕ) (command : Command) (answer : Reply) (Says : Cell → Type 0) (cells : Cells)
+    (told : Option (List World)) (volumes : ℕ) (entries : ℕ → Option Entry) : Type 0 where
+  pub cell : Cell
+  pub step : Step unlimited (cells id) command answer cell
+  pub says : Says cell
+  pub stands : PoolStands told volumes entries (with_cell cells id cell)
+
+-- the number was given between these two next numbers
+pub record GivenBetween (first last number : ℕ) : Type 0 where
+  pub since : first ≤ number
+  pub before : number < last
+
+-- the reply that the answer of a finish is
+abbrev pub finish_reply : {T E : Type 0} → Result T E → Reply
+finish_reply (Ok nothing) = done
+finish_reply (Err failure) = failed
+
+-- the entry is that of an open writer
+abbrev pub IsWritingState : State → Type 0
+IsWritingState Finalised = ⊥
+IsWritingState (InWriting block meta) = Unit {0}
+IsWritingState InDoubt = ⊥
+IsWritingState InWaiting = ⊥
+
+abbrev pub IsWritten : Option Entry → Type 0
+IsWritten entry = IsSomeAnd entry (λ e. IsWritingState e.state)

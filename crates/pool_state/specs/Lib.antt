@@ -1,0 +1,5 @@
+pub mod Books
+pub mod Writers
+pub mod Stands
+pub mod Answers
+pub mod Readers

@@ -1,0 +1,29 @@
+//! A pool: its disks and its books.
+ghost use Rattle.std.specs.Prelude.{◌≡◌, ◌≤◌};
+ghost use Rattle.map_model.specs.Cells.{absent};
+ghost use Rattle.pool_state.specs.Stands.{Stands, HoldNoBlock};
+
+use crate::pool_record::Pool;
+use crate::replica_map::ReplicaMap;
+use disk_model::PoolDisks;
+use std::alloc::Global;
+
+/// A pool without replicas, over disks that hold no file of a block. It takes no memory and makes no device call.
+pub fn make_pool<D: PoolDisks>(alloc: Global, disks: D) -> Pool<D>
+    requires some_volume { 1 ≤ D.volume_count disks }
+    requires empty { HoldNoBlock (D.worlds disks) }
+    ensures stands { Stands D.worlds D.volume_count result (λ id. absent) }
+    ensures disks { result.disks ≡ disks }
+{
+    Pool {
+        disks,
+        map: ReplicaMap::make(alloc),
+    }
+}
+
+/// The disks of a pool. It makes no device call.
+pub fn close_pool<D: PoolDisks>(pool: Pool<D>) -> D
+    ensures { result ≡ pool.disks }
+{
+    pool.disks
+}

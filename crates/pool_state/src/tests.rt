@@ -1,0 +1,137 @@
+//! A block's way through a pool over disks in memory.
+ghost use Rattle.std.specs.Prelude.{◌≡◌, false};
+ghost use Rattle.volume_layout.specs.Aside.{is_aside};
+ghost use Rattle.pool_state.specs.Stands.{StandsForSome};
+
+use super::*;
+use disk_model::{DiskError, PlainDisks, PoolDisks, Reader};
+use std::alloc::Global;
+use std::process::Abort;
+use std::test::Fail;
+use volume_layout::{BlockId, Stamp};
+
+// A pool without replicas, over disks in memory.
+fn empty_pool(alloc: Global) -> Pool<PlainDisks>
+    ensures stands { StandsForSome ⟦<PlainDisks as PoolDisks>⟧.worlds ⟦<PlainDisks as PoolDisks>⟧.volume_count result }
+{
+    make_pool(alloc, PlainDisks::make(alloc, 1))
+}
+
+// Writes a whole block.
+fn write_block<D: PoolDisks>(
+    alloc: Global,
+    pool: &mut Pool<D>,
+    id: BlockId,
+    stamp: Stamp,
+    piece: &[u8],
+) -> Result<(), StartFault>
+    requires stands { StandsForSome D.worlds D.volume_count pool.old }
+    ensures stands { StandsForSome D.worlds D.volume_count pool.new }
+{
+    let mut writer = pool.start_write(alloc, id, stamp, piece.len() as u64)?;
+    if writer.push(piece).is_err() || !writer.is_whole() {
+        return Err(StartFault::Memory);
+    }
+    let Ok(pair) = writer.seal() else {
+        return Err(StartFault::Failed);
+    };
+    match pool.finish(pair) {
+        Ok(()) => Ok(()),
+        Err(_) => Err(StartFault::Failed),
+    }
+}
+
+// Reads a whole block: its stamp and its bytes.
+fn read_block<D: PoolDisks>(
+    alloc: Global,
+    pool: &mut Pool<D>,
+    id: BlockId,
+) -> Result<(u64, Vec<u8>), StartFault>
+    requires stands { StandsForSome D.worlds D.volume_count pool.old }
+    ensures stands { StandsForSome D.worlds D.volume_count pool.new }
+{
+    let pair = pool.start_read(alloc, id)?;
+    let stamp = pair.stamp.get();
+    match read_all(alloc, pair) {
+        Ok(bytes) => Ok((stamp, bytes)),
+        Err(_) => Err(StartFault::Failed),
+    }
+}
+
+// The first bytes of a settled file of volume 1.
+fn file_bytes<D: PoolDisks>(
+    alloc: Global,
+    pool: &mut Pool<D>,
+    path: &str,
+) -> Result<Vec<u8>, DiskError>
+    requires stands { StandsForSome D.worlds D.volume_count pool.old }
+    requires settled { is_aside path.now ≡ false }
+{
+    let mut out = vec![in alloc; 0u8; 16]?;
+    let Some(mut reader) = pool.disks.lend_reader(alloc, 1, path)? else {
+        return Err(DiskError::Failed);
+    };
+    match reader.read(0, &mut out) {
+        Ok(count) => {
+            out.truncate(count);
+            Ok(out)
+        }
+        Err(_) => Err(DiskError::Failed),
+    }
+}
+
+// What a reader and a long piece are answered while two bytes of a block are written.
+fn refused_meanwhile<D: PoolDisks>(
+    alloc: Global,
+    pool: &mut Pool<D>,
+    id: BlockId,
+    stamp: Stamp,
+) -> Result<(Option<StartFault>, Result<(), PushFault>), StartFault>
+    requires stands { StandsForSome D.worlds D.volume_count pool.old }
+{
+    let mut writer = pool.start_write(alloc, id, stamp, 2)?;
+    let read = pool.start_read(alloc, id).err();
+    Ok((read, writer.push(b"abc")))
+}
+
+#[test]
+fn a_block_is_written_and_read(rt: HostRuntime) -> Result<(), Fail> {
+    let alloc = rt.alloc();
+    let mut pool = empty_pool(alloc);
+    let (Some(id), Some(stamp)) = (BlockId::new(5), Stamp::new(1001)) else {
+        panic!(rt; "no id");
+    };
+    assert!(rt; matches!(read_block(alloc, &mut pool, id), Err(StartFault::None)));
+    assert_eq!(rt; write_block(alloc, &mut pool, id, stamp, b"hello"), Ok(()));
+    let Ok((read_stamp, bytes)) = read_block(alloc, &mut pool, id) else {
+        panic!(rt; "not read");
+    };
+    assert_eq!(rt; read_stamp, 1001);
+    assert_eq!(rt; bytes.as_slice(), b"hello".as_slice());
+    assert_eq!(rt;
+        write_block(alloc, &mut pool, id, stamp, b"other"),
+        Err(StartFault::Exists)
+    );
+    let meta = file_bytes(
+        alloc,
+        &mut pool,
+        "current/finalized/subdir0/subdir0/blk_5_1001.meta",
+    )?;
+    assert_eq!(rt; meta.as_slice(), [0u8, 1, 0, 0, 0, 2, 0].as_slice());
+    Ok(())
+}
+
+#[test]
+fn a_block_that_is_written_refuses_others(rt: HostRuntime) -> Result<(), Fail> {
+    let alloc = rt.alloc();
+    let mut pool = empty_pool(alloc);
+    let (Some(id), Some(stamp)) = (BlockId::new(5), Stamp::new(1001)) else {
+        panic!(rt; "no id");
+    };
+    assert_eq!(rt;
+        refused_meanwhile(alloc, &mut pool, id, stamp),
+        Ok((Some(StartFault::Writing), Err(PushFault::Over { left: 2 })))
+    );
+    assert_eq!(rt; pool.write_refusal(id), Some(StartFault::Writing));
+    Ok(())
+}

@@ -1,0 +1,7 @@
+pub mod WordLemmas
+pub mod NumberLemmas
+pub mod TextLists
+pub mod Volumes
+pub mod Pools
+pub mod DataLine
+mod NodeInstances

@@ -1,0 +1,7 @@
+use Rattle.std.proofs.Common.{rules}
+use Rattle.std.proofs.lemmas.Iterator.{YieldsList-from_slice, YieldsList-from_map_by}
+use Rattle.std.proofs.lemmas.Iterator.Consumers.{map_from_collect}
+use Rattle.script_lang.proofs.volume_word.dirs.Goals as goal
+
+pub returns : goal.returns
+returns c = map_from_collect _ c.collect.ensures.ran (YieldsList-from_map_by _ (λ text. text.now) (λ v. v.dir) (YieldsList-from_slice c.args.volumes.now cc) c.map.ensures.closure (λ x r q k. search rules))

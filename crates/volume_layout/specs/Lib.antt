@@ -1,0 +1,6 @@
+pub mod Paths
+pub mod Aside
+pub mod PoolFiles
+pub mod Places
+pub mod Names
+pub mod Choice
