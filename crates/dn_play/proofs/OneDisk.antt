@@ -3,7 +3,7 @@ use Rattle.std.proofs.Common.{◌≡◌, ℕ, ◌≤◌, ◌&&◌, ◌==◌, nat
 use Rattle.std.proofs.lemmas.Bool.{and_parts, or_parts, leb-true, ltb-false, eqb-true}
 use Rattle.std.proofs.lemmas.Option.{same_Some}
 use Rattle.std.proofs.lemmas.List.Splits.{length-slice_split}
-use Rattle.std.proofs.lemmas.List.Elements.{All-head}
+use Rattle.std.proofs.lemmas.List.Elements.{All-head, All-cons, All-nil}
 use Rattle.std.specs.List.{list_all, slice_split}
 use Rattle.std.specs.Option.{option_map_or}
 use Rattle.script_lang.specs.NodeWords.{NodeSaid, node_of, node_name_of, pools_of, are_node_pools, ◌>>=◌}
@@ -122,3 +122,7 @@ holds_of_only P items disk is all = All-head P disk [] (subst (All P) is all)
 pub judged_items : {D : Type 0} (volume_count : D → ℕ) (words : List (List ℕ)) (ending : Option Ending) (lent disks : List D) → lent ≡ disks →
     IsJudged (words_fit volume_count words lent) (words_are_later words) ending → IsJudged (words_fit volume_count words disks) (words_are_later words) ending
 judged_items volume_count words ending lent disks is j = subst (λ items. IsJudged (words_fit volume_count words items) (words_are_later words) ending) is j
+
+-- what holds of the only one holds of all
+pub holds_of_one : {D : Type 0} (P : D → Type 0) (disk : D) → P disk → All P (disk ∷ [])
+holds_of_one P disk holds = All-cons P disk [] holds (All-nil P)

@@ -14,3 +14,6 @@ mod words;
 mod writers;
 
 pub use playing::{Played, play};
+
+#[cfg(test)]
+mod tests;
