@@ -17,6 +17,7 @@ pub mod Aside
 pub mod Directories
 pub mod StepProofs
 pub mod LawProofs
+pub mod Soundness
 pub mod Drop
 pub mod Delete
 pub mod StartAppend

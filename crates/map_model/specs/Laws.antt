@@ -9,6 +9,7 @@ use Rattle.map_model.specs.Cells.{Replica, Cell, Cells}
 use Rattle.map_model.specs.Steps.{Command, Reply, Room, Step}
 use Rattle.map_model.specs.Allows.{AllowsImage, AllowsFiles, Between}
 use Rattle.map_model.specs.Copies.{BlockFiles, ReadsAs}
+use Rattle.map_model.specs.Sound.{HasSoundCopies, IsSoundBy}
 use Rattle.map_model.specs.Slots.{File, is_file, path_of, View, files_in, view_of}
 use Rattle.map_model.specs.Stands.{BlockBooks, BlockStands}
 
@@ -38,6 +39,15 @@ PoolStands IsMatch told books cells = InEachWorld told (WorldStands IsMatch book
 abbrev pub StandsAllows : (List ℕ → List ℕ → Type 0) → Type 0
 StandsAllows IsMatch = (told : Option (List World)) (books : ℕ → BlockBooks) (cells : Cells) (image : Files) →
     PoolStands IsMatch told books cells → CanLeave told image → AllowsImage cells image
+
+-- what stands for a block's cell has copies that match
+abbrev pub BlockIsSound : (List ℕ → List ℕ → Type 0) → Type 0
+BlockIsSound IsMatch = (view : View) (books : BlockBooks) (cell : Cell) → BlockStands IsMatch view books cell → HasSoundCopies IsMatch (files_in view)
+
+-- every image of what a pool stands for is sound
+abbrev pub StandsIsSound : (List ℕ → List ℕ → Type 0) → Type 0
+StandsIsSound IsMatch = (told : Option (List World)) (books : ℕ → BlockBooks) (cells : Cells) (image : Files) →
+    PoolStands IsMatch told books cells → CanLeave told image → IsSoundBy IsMatch image
 
 -- a call of the disk between files of one block
 pub data CallsFilesOf (id : ℕ) (before : World) : World → Type 0 where

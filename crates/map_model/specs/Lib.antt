@@ -3,6 +3,8 @@ pub mod Checksums
 pub mod ChecksumLaws
 pub mod Cells
 pub mod Copies
+pub mod Sound
+pub mod Openings
 pub mod Steps
 pub mod Allows
 pub mod Slots

@@ -1,6 +1,6 @@
 // What an image shows of the blocks that a disk stands for.
 ghost use Rattle.map_model.specs.Checksums.{Matches};
-ghost use Rattle.map_model.specs.Laws.{BlockAllows, OneReading, OtherBlocksStand, StandsAllows};
+ghost use Rattle.map_model.specs.Laws.{BlockAllows, BlockIsSound, OneReading, OtherBlocksStand, StandsAllows, StandsIsSound};
 
 /// What stands for a block is read as the cell of the block allows.
 pub fn block_allows()
@@ -10,6 +10,16 @@ pub fn block_allows()
 /// Every image that a disk can leave is allowed by the cells that its worlds stand for.
 pub fn stands_allows()
     ensures { StandsAllows Matches }
+{}
+
+/// Every copy that is read of what stands for a block matches its meta file.
+pub fn block_is_sound()
+    ensures { BlockIsSound Matches }
+{}
+
+/// Every image that a disk can leave whose worlds stand for cells is sound.
+pub fn stands_is_sound()
+    ensures { StandsIsSound Matches }
 {}
 
 /// A call of the disk between files of one block leaves what stands for every other block.

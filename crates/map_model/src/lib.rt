@@ -8,7 +8,10 @@ mod steps;
 mod tenures;
 
 pub use checksums::{has_check_values, some_do_not_match, some_match};
-pub use images::{block_allows, files_have_one_reading, other_blocks_stand, stands_allows};
+pub use images::{
+    block_allows, block_is_sound, files_have_one_reading, other_blocks_stand, stands_allows,
+    stands_is_sound,
+};
 pub use steps::{
     appends_are_read_back, first_refusal_is_answered, only_own_cells_change,
     pushes_keep_the_writer, reads_change_nothing, reads_give_the_content, refused_changes_nothing,
