@@ -1,0 +1,13 @@
+pub mod Totals
+pub mod Numbers
+pub mod Places
+pub mod Turning
+pub mod Seeing
+pub mod Numbering
+pub mod Staying
+pub mod Keeping
+pub mod Steps
+pub mod Opening
+pub mod Parts
+pub mod Replaying
+pub mod Calls

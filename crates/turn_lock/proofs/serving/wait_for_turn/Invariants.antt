@@ -1,0 +1,6 @@
+use Rattle.std.proofs.Common.{◌≡◌}
+use Rattle.turn_lock.proofs.serving.wait_for_turn.Given as goal
+
+-- until its turn comes the seat stays as it was
+abbrev pub invariant-loop : goal.invariant-loop
+invariant-loop g l = (l.seat.table_id ≡ l.initial.seat.table_id) × (l.seat.me ≡ l.initial.seat.me)
