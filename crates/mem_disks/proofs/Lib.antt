@@ -1,0 +1,5 @@
+pub mod Held
+pub mod Follows
+pub mod Within
+pub mod Directory
+pub mod Listings

@@ -1,0 +1,15 @@
+use Rattle.std.proofs.Common.{ap, List, ℕ, refl}
+use Rattle.disk_model.specs.Worlds.{draft_at, created}
+use Rattle.mem_disks.specs.HistoryLaws.{stands_as, opens_as, same_time}
+use Rattle.mem_disks.proofs.disks.MemDisks.leave_created.Goals as goal
+
+pub returns-in-Ok-clause-worlds : goal.returns-in-Ok-clause-worlds
+returns-in-Ok-clause-worlds c =
+    stands_as (λ world. ap (λ (q : List ℕ). created (draft_at c.args.self.now.store.next_number c.args.vol q) world) c.in-Ok.ensures.ok) c.leave_open.ensures.worlds
+
+pub returns-in-Ok-clause-opens : goal.returns-in-Ok-clause-opens
+returns-in-Ok-clause-opens c closed room low same =
+    opens_as (λ world. ap (λ (q : List ℕ). created (draft_at c.args.self.now.store.next_number c.args.vol q) world) c.in-Ok.ensures.ok) (c.leave_open.ensures.opens closed low same)
+
+pub returns-in-Err-clause-time : goal.returns-in-Err-clause-time
+returns-in-Err-clause-time c = rw c.lack.ensures.store (same_time _ _ _ _ refl (λ is. is))

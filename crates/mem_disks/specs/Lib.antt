@@ -1,0 +1,6 @@
+pub mod Shelves
+pub mod History
+pub mod HistoryLaws
+pub mod Entries
+pub mod Standing
+pub mod Listing
