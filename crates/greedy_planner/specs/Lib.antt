@@ -1,0 +1,4 @@
+pub mod Volumes
+pub mod Greedy
+pub mod Sound
+pub mod Steps
