@@ -1,0 +1,4 @@
+pub mod Digits
+pub mod WrittenLemmas
+pub mod ReadingLemmas
+pub mod CheckLemmas

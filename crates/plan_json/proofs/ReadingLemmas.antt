@@ -1,0 +1,25 @@
+-- What a text reads as, from the facts that the reader gives.
+use Rattle.std.proofs.Common.{◌≡◌, ℕ, List, [], ◌∷◌, length, arith, Bool, true, false, None, refl, ap, ◌∙◌}
+use Rattle.std.specs.Prelude.{if◌then◌else◌}
+use Rattle.std.specs.Str.{IsUtf8, is_utf8}
+use Rattle.std.proofs.lemmas.Str.{is_utf8-from_IsUtf8, IsUtf8-from_is_utf8}
+use Rattle.serde_json.specs.Read as json
+use Rattle.serde_json.specs.View.{items_view}
+use Rattle.serde_json.specs.declared.value.Value.{Value}
+use Rattle.plan_json.specs.Plans.{item_count}
+use Rattle.plan_json.specs.Reading.{reading}
+
+pub reading-utf8 : (text : List ℕ) → IsUtf8 text → reading text ≡ json.read text
+reading-utf8 text h = ap (λ (b : Bool). if b then json.read text else None) (is_utf8-from_IsUtf8 text h)
+
+pub reading-none : (text : List ℕ) → (IsUtf8 text → json.read text ≡ None) → reading text ≡ None
+reading-none text h = by (is_utf8 text) refl
+  where
+    by : (b : Bool) → is_utf8 text ≡ b → reading text ≡ None
+    by true e = ap (λ (b : Bool). if b then json.read text else None) e ∙ h (IsUtf8-from_is_utf8 text e)
+    by false e = ap (λ (b : Bool). if b then json.read text else None) e
+
+-- the items of a list are as many as its values
+pub item_count-items_view : (values : List Value) → item_count (items_view values) ≡ length values
+item_count-items_view [] = refl
+item_count-items_view (value ∷ values) = let e = item_count-items_view values in omega (arith, e)
