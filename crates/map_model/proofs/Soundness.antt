@@ -3,19 +3,18 @@ use Rattle.std.proofs.Common.{◌≡◌, ◌≢◌, inl, inr, ℕ, List, Option,
 use Rattle.std.specs.Prelude.{IsTrue, IsSome, IsSomeAnd, is_some}
 use Rattle.std.proofs.lemmas.Bool.{cases_eq, false≢true}
 use Rattle.std.proofs.lemmas.Option.{same_Some}
-use Rattle.volume_layout.specs.Paths.{IsBlockId}
 use Rattle.disk_model.specs.Worlds.{World}
 use Rattle.map_model.specs.Cells.{Replica, Cell, absent, final, growing, unsure, waiting}
-use Rattle.map_model.specs.Copies.{Spot, BlockFiles, own_spot, IsCopy, HasMeta}
+use Rattle.map_model.specs.Copies.{Spot, BlockFiles, IsCopy}
 use Rattle.map_model.specs.Sound.{HasSoundCopies}
 use Rattle.map_model.specs.Laws.{BlockIsSound, StandsIsSound}
 use Rattle.map_model.specs.Slots.{block, meta, Slot, empty, holds, drafted, is_standing, bytes_in, View, files_in, view_of}
-use Rattle.map_model.specs.Stands.{Entry, Leftover, Ticket, BlockBooks, IsListed, BlockStands, LeftoversAreCopies}
+use Rattle.map_model.specs.Stands.{Entry, Leftover, Ticket, BlockStands}
 use Rattle.map_model.specs.Tenures.{books_of}
 use Rattle.map_model.proofs.Owned.{own_file, written_left, written_fresh}
 use Rattle.map_model.proofs.Readings.{KeepsStamp-meta}
 use Rattle.map_model.proofs.SlotLemmas.{bytes-standing}
-use Rattle.map_model.proofs.KeyLaw.{OnlyPair, final_pair, growing_pair, files_allow}
+use Rattle.map_model.proofs.KeyLaw.{OnlyPair, final_pair, growing_pair}
 use Rattle.map_model.proofs.Bridge.{image_files}
 
 -- a copy, in the slots of its volume

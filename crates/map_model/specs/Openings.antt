@@ -1,5 +1,5 @@
 -- What an opening makes of a pool's files.
-use Rattle.std.specs.Prelude.{ℕ, ◌≡◌, ◌⊎◌, ◌||◌, IsTrue, Option, Some, None, IsSome, is_some, MatchOption}
+use Rattle.std.specs.Prelude.{ℕ, ◌≡◌, ◌⊎◌, ◌||◌, IsTrue, Option, IsSome, is_some, MatchOption}
 use Rattle.disk_model.specs.Files.{Files}
 use Rattle.disk_model.specs.Worlds.{World, has_draft}
 use Rattle.volume_layout.specs.Paths.{IsBlockId}

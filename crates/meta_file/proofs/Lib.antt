@@ -1,0 +1,3 @@
+pub mod CrcLemmas
+pub mod HeaderLemmas
+pub mod SumLemmas

@@ -1,0 +1,14 @@
+//! Meta files: the checksums of a block's chunks behind a header, as the HDFS on-disk format has them.
+#![tactic(auto)]
+
+mod crc;
+mod header;
+mod summer;
+mod verdict;
+
+pub use header::{Header, MetaFault, read_header, write_header};
+pub use summer::Summer;
+pub use verdict::Verdict;
+
+#[cfg(test)]
+mod tests;
