@@ -7,7 +7,7 @@ use Rattle.line_io.specs.Written.{AppendsFront}
 use Rattle.script_lang.specs.declared.LineFault.{LineFault}
 use Rattle.script_lang.specs.declared.LineFault.TheVariants.{Bad, Later as NotYet, Memory}
 use Rattle.script_lang.specs.declared.Line.{Line}
-use Rattle.script_lang.specs.declared.Line.TheVariants.{Blank, Open, Push, Finish, Read}
+use Rattle.script_lang.specs.declared.Line.TheVariants.{Blank, Open, Push, Finish, Write, Read, Delete}
 use Rattle.script_lang.specs.declared.reply.Reply.{Reply}
 use Rattle.script_lang.specs.Reply.{reply_line}
 use Rattle.script_lang.specs.Script.{line_of}
@@ -17,6 +17,9 @@ use Rattle.dn_play.specs.Commands.{Trust}
 use Rattle.dn_play.specs.Lines.{Follows}
 use Rattle.dn_play.specs.Standing.{IsKnown, IsCommand, LineCarried}
 use Rattle.dn_play.specs.Script.{Script, script_after, goes_on, prepend}
+use Rattle.disk_model.specs.Files.{Files}
+use Rattle.map_model.specs.Cells.{Cells}
+use Rattle.dn_play.specs.Images.{AllowedSince, LinesCrashSafe}
 use Rattle.dn_play.specs.Answer.{Answered, Unanswered, FirstOfLine}
 
 -- where nothing is written
@@ -30,7 +33,9 @@ is_command Blank h = absurd (h refl)
 is_command (Open id stamp need) h = tt
 is_command (Push id piece) h = tt
 is_command (Finish id) h = tt
+is_command (Write id stamp bytes) h = tt
 is_command (Read id) h = tt
+is_command (Delete id) h = tt
 
 -- a command stands before those behind it
 command_says : (line : Line) → IsCommand line → (rest : Script) → goes_on line rest ≡ prepend (line ∷ []) rest
@@ -38,7 +43,9 @@ command_says Blank h rest = absurd h
 command_says (Open id stamp need) h rest = refl
 command_says (Push id piece) h rest = refl
 command_says (Finish id) h rest = refl
+command_says (Write id stamp bytes) h rest = refl
 command_says (Read id) h rest = refl
+command_says (Delete id) h rest = refl
 
 -- an answer that is not for want of memory is what the text says
 pub told_ok : (text : List ℕ) (line : Line) → (Ok line ≡ Err Memory) ⊎ (Ok line ≡ line_of text) → line_of text ≡ Ok line
@@ -50,96 +57,131 @@ told_bad text fault column is h = elim h [ inl e ↦ absurd cc | inr e ↦ sym e
 pub told_later : (text : List ℕ) (fault : LineFault) → fault ≡ NotYet → (◌≡◌ {A = Result Line LineFault} (Err fault) (Err Memory)) ⊎ (Err fault ≡ line_of text) → line_of text ≡ Err NotYet
 told_later text fault is h = elim h [ inl e ↦ absurd cc | inr e ↦ sym e ∙ ap Err is ]
 
-module _ {Faulty : ℕ → ℕ → Type 0} {told : Option (List World)} {state : RunState} {before : Mark} where
+-- where no line was carried out
+pub no_lines : {before : Mark} {state : RunState} {Sound : Cells → Type 0} {past : ℕ → Files → Type 0} → AllowedSince past before.moment state [] → LinesCrashSafe before state [] Sound Sound past past
+no_lines now = record { images = λ t image s. inl s; each = now; sound = λ sound. sound; sound_images = λ sound t image s. inl s }
+
+module _ {Faulty : ℕ → ℕ → Type 0} {told : Option (List World)} {state : RunState} {before : Mark} {StandsFor : RunState → Type 0} {Sound : Cells → Type 0} {past : ℕ → Files → Type 0}
+    (stands : StandsFor state) (now : AllowedSince past before.moment state []) where
   -- a blank line
-  pub answered_blank : {StandsFor : RunState → Type 0} (taken : Option (List ℕ)) (text : List ℕ) → StandsFor state → line_of text ≡ Ok Blank → Answered Faulty told state before before taken taken text StandsFor
-  answered_blank taken text stands e = record {
+  pub answered_blank : (taken : Option (List ℕ)) (text : List ℕ) → line_of text ≡ Ok Blank → Answered Faulty told state before before taken taken text StandsFor Sound Sound past past
+  answered_blank taken text e = record {
     turns = [];
     says = λ number rest. ap (λ r. script_after number r rest) e;
     follows = λ trust known. tt;
     stands = stands;
     at_mark = refl;
+    crash = no_lines now;
     written = appends_nothing taken;
   }
 
   -- a line outside the language
-  pub unanswered_outside : (taken : Option (List ℕ)) (number : ℕ) (text : List ℕ) (column : ℕ) → line_of text ≡ Err (Bad column) → Unanswered Faulty told state before before taken taken number text (Outside number 1)
+  pub unanswered_outside : (taken : Option (List ℕ)) (number : ℕ) (text : List ℕ) (column : ℕ) → line_of text ≡ Err (Bad column) → Unanswered Faulty told state before before taken taken number text (Outside number 1) StandsFor Sound Sound past past
   unanswered_outside taken number text column e = record {
     turns = [];
     shown = [];
     says = (refl, refl, (column, refl, e));
     follows = λ trust known. tt;
+    stands = stands;
     at_mark = refl;
+    crash = no_lines now;
     shows = refl;
     written = appends_nothing taken;
   }
 
   -- a line that isn't carried out yet
-  pub unanswered_later : (taken : Option (List ℕ)) (number : ℕ) (text : List ℕ) → line_of text ≡ Err NotYet → Unanswered Faulty told state before before taken taken number text (Later number)
+  pub unanswered_later : (taken : Option (List ℕ)) (number : ℕ) (text : List ℕ) → line_of text ≡ Err NotYet → Unanswered Faulty told state before before taken taken number text (Later number) StandsFor Sound Sound past past
   unanswered_later taken number text e = record {
     turns = [];
     shown = [];
     says = (refl, refl, e);
     follows = λ trust known. tt;
+    stands = stands;
     at_mark = refl;
+    crash = no_lines now;
     shows = refl;
     written = appends_nothing taken;
   }
 
   -- no memory for the line
-  pub unanswered_unread : (taken : Option (List ℕ)) (number : ℕ) (text : List ℕ) → Unanswered Faulty told state before before taken taken number text NoMemory
+  pub unanswered_unread : (taken : Option (List ℕ)) (number : ℕ) (text : List ℕ) → Unanswered Faulty told state before before taken taken number text NoMemory StandsFor Sound Sound past past
   unanswered_unread taken number text = record {
     turns = [];
     shown = [];
     says = λ rest. ((script_after number (line_of text) rest).commands, refl);
     follows = λ trust known. tt;
+    stands = stands;
     at_mark = refl;
+    crash = no_lines now;
     shows = ([], refl, omega arith);
     written = appends_nothing taken;
   }
 
-  module _ {after : Mark} {StandsFor : RunState → Type 0} (taken taken' : Option (List ℕ)) (number : ℕ) (text : List ℕ) (line : Line) (reply : Reply)
-      (e : line_of text ≡ Ok line) (is : IsCommand line) (counts : IsLater before after) (carried : LineCarried Faulty told state before line reply after StandsFor) where
+module _ {Faulty : ℕ → ℕ → Type 0} {told : Option (List World)} {state : RunState} {before : Mark} {Sound : Cells → Type 0} {past : ℕ → Files → Type 0}
+    (now : AllowedSince past before.moment state []) where
+  module _ {after : Mark} {StandsThen : RunState → Type 0} {SoundThen : Cells → Type 0} {since : ℕ → Files → Type 0} (taken taken' : Option (List ℕ)) (number : ℕ) (text : List ℕ) (line : Line) (reply : Reply)
+      (e : line_of text ≡ Ok line) (is : IsCommand line) (counts : IsLater before after) (carried : LineCarried Faulty told state before line reply after StandsThen Sound SoundThen past since)
+      (then : AllowedSince since after.moment carried.new []) where
     abbrev turn : Turn
     turn = record { line = line; reply = reply; state = carried.new; mark = after }
 
     follows : (trust : Trust) → IsKnown trust told → Follows trust Faulty state before (turn ∷ [])
     follows trust known = (record { counts = counts; does = carried.does trust known }, tt)
 
+    -- what a crash can leave while it is carried out
+    safe : LinesCrashSafe before state (turn ∷ []) Sound SoundThen past since
+    safe = record {
+      images = carried.crash.images;
+      each = (
+        λ image s. elim (carried.crash.images before.moment image s) [
+          | inl earlier ↦ inl (now image earlier)
+          | inr allows ↦ allows
+        ],
+        then,
+      );
+      sound = carried.crash.sound;
+      sound_images = carried.crash.sound_images;
+    }
+
     first_command : FirstOfLine number text (line ∷ [])
     first_command = λ rest. (rest.commands, ap (λ s. s.commands) (ap (λ r. script_after number r rest) e ∙ command_says line is rest))
 
     -- a command that is carried out, with its reply written
-    pub answered_command : Appends taken taken' (reply_line reply) → Answered Faulty told state before after taken taken' text StandsFor
+    pub answered_command : Appends taken taken' (reply_line reply) → Answered Faulty told state before after taken taken' text StandsThen Sound SoundThen past since
     answered_command written = record {
       turns = turn ∷ [];
       says = λ n rest. ap (λ r. script_after n r rest) e ∙ command_says line is rest;
       follows = follows;
       stands = carried.stands;
       at_mark = refl;
+      crash = safe;
       written = subst (Appends taken taken') (sym (append-nil (reply_line reply))) written;
     }
 
     -- no memory for the reply
-    pub unanswered_unshown : Unanswered Faulty told state before after taken taken number text NoMemory
+    pub unanswered_unshown : Unanswered Faulty told state before after taken taken number text NoMemory StandsThen Sound SoundThen past since
     unanswered_unshown = record {
       turns = turn ∷ [];
       shown = [];
       says = first_command;
       follows = follows;
+      stands = carried.stands;
       at_mark = refl;
+      crash = safe;
       shows = (reply ∷ [], refl, omega arith);
       written = appends_nothing taken;
     }
 
     -- a reply that is not wholly written
-    pub unanswered_cut : AppendsFront taken taken' (reply_line reply) → Unanswered Faulty told state before after taken taken' number text SinkFault
+    pub unanswered_cut : AppendsFront taken taken' (reply_line reply) → Unanswered Faulty told state before after taken taken' number text SinkFault StandsThen Sound SoundThen past since
     unanswered_cut written = record {
       turns = turn ∷ [];
       shown = reply ∷ [];
       says = first_command;
       follows = follows;
+      stands = carried.stands;
       at_mark = refl;
+      crash = safe;
       shows = refl;
       written = subst (AppendsFront taken taken') (sym (append-nil (reply_line reply))) written;
     }

@@ -1,6 +1,9 @@
 -- Words that aren't carried out.
 use Rattle.std.proofs.Common.{◌≡◌, ◌⊎◌, inl, inr, ℕ, Bool, true, false, List, [], Option, None, Some, IfSome, refl, sym, ◌∙◌, ap, subst, arith}
 use Rattle.disk_model.specs.Worlds.{World}
+use Rattle.disk_model.specs.Files.{Files}
+use Rattle.disk_model.specs.Told.{CanLeave}
+use Rattle.dn_play.proofs.Opening.{alike_start, only_start}
 use Rattle.dn_play.specs.declared.ending.Ending.{Ending}
 use Rattle.dn_play.specs.declared.ending.Ending.TheVariants.{Complete, Usage, SourceFault, SinkFault, NoMemory, Outside, OpenFault, Limit, Later}
 use Rattle.dn_play.specs.State.{Mark}
@@ -52,9 +55,9 @@ pub never_judged : (fit later : Bool) (ending other : Ending) → IsJudged fit l
 never_judged fit later ending other j e = subst (λ (x : Ending). IsJudged fit later (Some x)) e j
 
 -- nothing was carried out for want of memory
-pub run_without : (Faulty : ℕ → ℕ → Type 0) (mark : Mark) (told : Option (List World)) (input taken taken' : Option (List ℕ)) (ending : Ending) (status : ℕ) → ending ≡ NoMemory → Closed ending taken taken' status →
-    Runs Faulty (record { entry = mark; exit = mark; told = told; input = input }) taken taken' status
-run_without Faulty mark told input taken taken' ending status is k = run_of Faulty _ taken taken taken' NoMemory status
+pub run_without : (Faulty : ℕ → ℕ → Type 0) (since : ℕ → Files → Type 0) (mark : Mark) (told : Option (List World)) (input taken taken' : Option (List ℕ)) (ending : Ending) (status : ℕ) → ending ≡ NoMemory → ((image : Files) → since mark.moment image → CanLeave told image) → Closed ending taken taken' status →
+    Runs Faulty since (CanLeave told) (record { entry = mark; exit = mark; told = told; input = input }) taken taken' status
+run_without Faulty since mark told input taken taken' ending status is only k = run_of Faulty since (CanLeave told) _ taken taken taken' NoMemory status
     (record {
       shown = [];
       goes = inl (record {
@@ -63,6 +66,7 @@ run_without Faulty mark told input taken taken' ending status is k = run_of Faul
         counts = record { faults = omega arith; next_number = omega arith; moment = omega arith };
         open_fault = λ e. absurd (cc e);
         later = λ e. absurd (cc e);
+        images = λ start holds image s. alike_start start image (only_start told start image holds (only image s));
       });
       written = appends_nothing taken;
     })

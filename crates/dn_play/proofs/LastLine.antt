@@ -12,6 +12,7 @@ use Rattle.dn_play.specs.State.{Mark, turn_lines, turn_replies}
 use Rattle.dn_play.specs.Script.{script_of}
 use Rattle.dn_play.specs.Session.{status_of, status_at, last_line, Writes, WritesReplies, Shows, Reads, FirstCommands, Declines, text_of}
 use Rattle.dn_play.specs.Answer.{Closed, IsOfLines}
+use Rattle.disk_model.specs.Files.{Files}
 use Rattle.dn_play.specs.Play.{Course, Goes, RunsPool, Runs}
 use Rattle.dn_play.proofs.Progress.{appends_append, take_behind, rose_from}
 
@@ -84,29 +85,37 @@ told_weaker None commands ending h = tt
 told_weaker (Some bytes) commands ending h = reads_weaker bytes commands ending h
 
 -- a run that ends without memory for its last line
-goes_weaker : (Faulty : ℕ → ℕ → Type 0) (course : Course) (ending : Ending) (shown : List Reply) → Goes Faulty course ending shown → Goes Faulty course NoMemory shown
-goes_weaker Faulty course ending shown goes = elim goes [
-  | inl s ↦ inl (record { is_before = inl refl; nothing = s.nothing; counts = s.counts; open_fault = λ e. absurd (cc e); later = λ e. absurd (cc e) })
+goes_weaker : (Faulty : ℕ → ℕ → Type 0) (since : ℕ → Files → Type 0) (can_leave : Files → Type 0) (course : Course) (ending : Ending) (shown : List Reply) → Goes Faulty since can_leave course ending shown → Goes Faulty since can_leave course NoMemory shown
+goes_weaker Faulty since can_leave course ending shown goes = elim goes [
+  | inl s ↦ inl (record { is_before = inl refl; nothing = s.nothing; counts = s.counts; open_fault = λ e. absurd (cc e); later = λ e. absurd (cc e); images = s.images })
   | inr r ↦ inr (record {
+    first = r.first;
     mark = r.mark;
     turns = r.turns;
-    none = r.none;
+    opened = r.opened;
+    one_meta = r.one_meta;
+    from_start = r.from_start;
     counts = r.counts;
     follows = r.follows;
     at_exit = r.at_exit;
     read = told_weaker course.input (turn_lines r.turns) ending r.read;
     shows = shows_weaker (turn_replies r.turns) shown ending r.shows;
     of_lines = tt;
+    images = r.images;
+    images_each = r.images_each;
+    images_at_exit = r.images_at_exit;
+    whole_at_exit = r.whole_at_exit;
+    sound = r.sound;
   })
 ]
 
 -- a run that was closed
-pub run_of : (Faulty : ℕ → ℕ → Type 0) (course : Course) (taken mid taken' : Option (List ℕ)) (ending : Ending) (status : ℕ) → RunsPool Faulty course taken mid ending → Closed ending mid taken' status → Runs Faulty course taken taken' status
-run_of Faulty course taken mid taken' ending status p k = elim k.closing_is [
+pub run_of : (Faulty : ℕ → ℕ → Type 0) (since : ℕ → Files → Type 0) (can_leave : Files → Type 0) (course : Course) (taken mid taken' : Option (List ℕ)) (ending : Ending) (status : ℕ) → RunsPool Faulty since can_leave course taken mid ending → Closed ending mid taken' status → Runs Faulty since can_leave course taken taken' status
+run_of Faulty since can_leave course taken mid taken' ending status p k = elim k.closing_is [
   | inl e ↦ closed_so e
   | inr e ↦ closed_without e
 ] where
-  closed_so : k.closing ≡ ending → Runs Faulty course taken taken' status
+  closed_so : k.closing ≡ ending → Runs Faulty since can_leave course taken taken' status
   closed_so e =
       let is : (status ≡ status_of ending) ⊎ (status ≡ 3) = subst (λ (c : Ending). (status ≡ status_of c) ⊎ (status ≡ 3)) e k.status_is in record {
         ending = ending;
@@ -118,12 +127,12 @@ run_of Faulty course taken mid taken' ending status p k = elim k.closing_is [
         };
       }
 
-  closed_without : (k.closing ≡ NoMemory) × (ending ≢ SinkFault) → Runs Faulty course taken taken' status
+  closed_without : (k.closing ≡ NoMemory) × (ending ≢ SinkFault) → Runs Faulty since can_leave course taken taken' status
   closed_without e =
       let is : (status ≡ status_of NoMemory) ⊎ (status ≡ 3) = subst (λ (c : Ending). (status ≡ status_of c) ⊎ (status ≡ 3)) e.0 k.status_is in record {
         ending = NoMemory;
         shown = p.shown;
-        goes = goes_weaker Faulty course ending p.shown p.goes;
+        goes = goes_weaker Faulty since can_leave course ending p.shown p.goes;
         ends = record {
           status_is = is;
           written = written_both NoMemory status taken mid taken' (text_of p.shown) (writes_weaker ending taken mid (text_of p.shown) e.1 p.written) is (subst (λ (c : Ending). Writes status mid taken' (last_line c)) e.0 k.written);
@@ -198,15 +207,15 @@ of_open (Limit line) h = absurd (omega arith)
 of_open (Later line) h = absurd (omega arith)
 
 -- a run isn't of the endings of other words
-pub not_usage : (Faulty : ℕ → ℕ → Type 0) (course : Course) (shown : List Reply) (ending : Ending) → Goes Faulty course ending shown → ending ≡ Usage → ⊥
-not_usage Faulty course shown ending goes e = elim goes [
+pub not_usage : (Faulty : ℕ → ℕ → Type 0) (since : ℕ → Files → Type 0) (can_leave : Files → Type 0) (course : Course) (shown : List Reply) (ending : Ending) → Goes Faulty since can_leave course ending shown → ending ≡ Usage → ⊥
+not_usage Faulty since can_leave course shown ending goes e = elim goes [
   | inl s ↦ elim s.is_before [ inl k ↦ absurd (let x : Usage ≡ NoMemory = sym e ∙ k in cc x) | inr k ↦ elim k [ inl j ↦ absurd (let x : Usage ≡ OpenFault = sym e ∙ j in cc x) | inr j ↦ absurd (let x : Usage ≡ Later 0 = sym e ∙ j in cc x) ] ]
   | inr r ↦ subst IsOfLines e r.of_lines
 ]
 
 -- where the disks failed at the opening
-pub opening_failed : (Faulty : ℕ → ℕ → Type 0) (course : Course) (shown : List Reply) (ending : Ending) → Goes Faulty course ending shown → ending ≡ OpenFault → Rose course.entry.faults course.exit.faults
-opening_failed Faulty course shown ending goes e = elim goes [
+pub opening_failed : (Faulty : ℕ → ℕ → Type 0) (since : ℕ → Files → Type 0) (can_leave : Files → Type 0) (course : Course) (shown : List Reply) (ending : Ending) → Goes Faulty since can_leave course ending shown → ending ≡ OpenFault → Rose course.entry.faults course.exit.faults
+opening_failed Faulty since can_leave course shown ending goes e = elim goes [
   | inl s ↦ s.open_fault e
   | inr r ↦ absurd (subst IsOfLines e r.of_lines)
 ]
@@ -231,10 +240,10 @@ lines_stop bytes commands OpenFault status of_lines h source sink is = absurd of
 lines_stop bytes commands (Limit line) status of_lines h source sink is = inl (is ∙ ap (λ s. status_at s.stop) (sym h))
 lines_stop bytes commands (Later line) status of_lines h source sink is = inl (is ∙ ap (λ s. status_at s.stop) (sym h))
 
-stop_of : {A B C : Type 0} (Faulty : ℕ → ℕ → Type 0) (course : Course) (bytes : List ℕ) (ending : Ending) (shown : List Reply) (status : ℕ) → course.input ≡ Some bytes → Goes Faulty course ending shown → (status ≡ status_of ending) ⊎ (status ≡ 3) →
+stop_of : {A B C : Type 0} (Faulty : ℕ → ℕ → Type 0) (since : ℕ → Files → Type 0) (can_leave : Files → Type 0) (course : Course) (bytes : List ℕ) (ending : Ending) (shown : List Reply) (status : ℕ) → course.input ≡ Some bytes → Goes Faulty since can_leave course ending shown → (status ≡ status_of ending) ⊎ (status ≡ 3) →
     (ending ≡ SourceFault → status ≡ 2 → A) → (status ≡ 3 → B) → (Rose course.entry.faults course.exit.faults → C) →
     (status ≡ status_at (script_of bytes).stop) ⊎ (status ≡ 4) ⊎ (status ≡ 8) ⊎ A ⊎ B ⊎ C
-stop_of Faulty course bytes ending shown status told goes is source sink disks = elim is [
+stop_of Faulty since can_leave course bytes ending shown status told goes is source sink disks = elim is [
   | inr three ↦ inr (inr (inr (inr (inl (sink three)))))
   | inl k ↦ elim goes [
     | inl s ↦ elim s.is_before [
@@ -246,9 +255,9 @@ stop_of Faulty course bytes ending shown status told goes is source sink disks =
 ]
 
 -- where the source tells its input, the status is that of the place where the script stops, or a cause is known
-pub stops_at : {A B C : Type 0} (Faulty : ℕ → ℕ → Type 0) (entry exit : Mark) (told : _) (input : Option (List ℕ)) (taken taken' : Option (List ℕ)) (status : ℕ) →
-    Runs Faulty (record { entry = entry; exit = exit; told = told; input = input }) taken taken' status → (status ≡ 2 → A) → (status ≡ 3 → B) → (Rose entry.faults exit.faults → C) →
+pub stops_at : {A B C : Type 0} (Faulty : ℕ → ℕ → Type 0) (since : ℕ → Files → Type 0) (can_leave : Files → Type 0) (entry exit : Mark) (told : _) (input : Option (List ℕ)) (taken taken' : Option (List ℕ)) (status : ℕ) →
+    Runs Faulty since can_leave (record { entry = entry; exit = exit; told = told; input = input }) taken taken' status → (status ≡ 2 → A) → (status ≡ 3 → B) → (Rose entry.faults exit.faults → C) →
     IfSome input (λ bytes. (status ≡ status_at (script_of bytes).stop) ⊎ (status ≡ 4) ⊎ (status ≡ 8) ⊎ A ⊎ B ⊎ C)
-stops_at Faulty entry exit told None taken taken' status r source sink disks = tt
-stops_at Faulty entry exit told (Some bytes) taken taken' status r source sink disks =
-    stop_of Faulty _ bytes r.ending r.shown status refl r.goes r.ends.status_is (λ e two. source two) sink disks
+stops_at Faulty since can_leave entry exit told None taken taken' status r source sink disks = tt
+stops_at Faulty since can_leave entry exit told (Some bytes) taken taken' status r source sink disks =
+    stop_of Faulty since can_leave _ bytes r.ending r.shown status refl r.goes r.ends.status_is (λ e two. source two) sink disks

@@ -1,5 +1,7 @@
 pub mod Stepping
 pub mod Stepped
+pub mod Composing
+pub mod Crashes
 pub mod Answering
 pub mod Marks
 pub mod Progress
@@ -7,3 +9,5 @@ pub mod Opening
 pub mod LastLine
 pub mod OneDisk
 pub mod Judging
+mod Whole
+mod PutFiles

@@ -1,43 +1,118 @@
 -- What a run is whose pool is opened, or isn't.
-use Rattle.std.proofs.Common.{◌≡◌, inl, inr, ℕ, List, [], Option, None, MatchOption, refl, sym, subst}
+use Rattle.std.proofs.Common.{◌≡◌, inl, inr, ℕ, true, false, List, [], ◌∷◌, Option, None, Some, MatchOption, Contains, refl, sym, ◌∙◌, subst}
+use mathlib.Core.Path.{fun_ext}
+use Rattle.std.specs.Prelude.{IsSome}
+use Rattle.std.proofs.lemmas.Option.{same_Some}
+use Rattle.volume_layout.specs.Paths.{IsBlockId}
 use Rattle.disk_model.specs.Worlds.{World}
 use Rattle.disk_model.specs.Files.{Files}
+use Rattle.disk_model.specs.Told.{IsWorldOf, InEachWorld, CanLeave}
+use Rattle.disk_model.specs.Moments.{AddsOnly}
 use Rattle.disk_model.specs.Causes.{Rose}
-use Rattle.map_model.specs.Cells.{absent}
+use Rattle.disk_model.proofs.Laws.{only_one}
+use Rattle.map_model.specs.Cells.{Replica, Cell, Cells, absent, final, waiting}
+use Rattle.map_model.specs.Copies.{BlockFiles, block_files}
+use Rattle.map_model.specs.Allows.{Allows, AllowsImage}
+use Rattle.map_model.specs.Openings.{LeavesBlockFile, WaitsExactly, MakesCells, shown_files, ReadsAlike}
+use Rattle.map_model.specs.Sound.{IsSound}
+use Rattle.map_model.specs.Stands.{Leftover}
 use Rattle.pool_state.specs.declared.entry.Entry.{Entry}
 use Rattle.pool_state.specs.Stands.{GoesOn, PoolStands}
 use Rattle.pool_state.specs.Writers.{Writer}
 use Rattle.pool_open.specs.declared.opening.OpenFault.{OpenFault}
-use Rattle.pool_open.specs.Outcome.{HoldsImage, fault_disks}
-use Rattle.pool_open.specs.ReplicaNames.{HasReplicaName}
+use Rattle.pool_open.specs.Outcome.{HoldsImage, HasTwoMetas, HasSoundFiles, ReadsAsOne, IsOpened, Opens, fault_disks}
 use Rattle.dn_play.specs.declared.ending.Ending.{Ending}
 use Rattle.dn_play.specs.declared.ending.Ending.TheVariants.{OpenFault as OpenFailed, Later}
+use Rattle.dn_play.specs.State.{RunState}
 use Rattle.dn_play.specs.Standing.{Standing, OpenWriter, NotGrowing, mark_of}
 use Rattle.dn_play.specs.Session.{WritesReplies}
 use Rattle.dn_play.specs.Answer.{Played, IsOfLines}
-use Rattle.dn_play.specs.Play.{Course, first_state, IsBeforeOpened, RunsPool}
+use Rattle.dn_play.specs.Play.{Course, IsBeforeOpened, RunsPool}
 use Rattle.dn_play.proofs.Progress.{known_on}
+use Rattle.dn_play.proofs.Crashes.{leaves_allowed, leaves_sound}
+use Rattle.dn_play.proofs.Whole.{leaves_whole}
 
--- a session without writers stands for absent blocks
-pub stands_first : (told : Option (List World)) (volumes : ℕ) (entries : ℕ → Option Entry) (writers : ℕ → Option Writer) → PoolStands told volumes entries (λ id. absent) → ((id : ℕ) → writers id ≡ None) →
-    Standing told volumes entries writers first_state
-stands_first told volumes entries writers pool none = record {
-  pool = pool;
-  writer = λ id valid. subst (λ w. MatchOption w (NotGrowing absent) (OpenWriter told entries id absent (record { first = 0; last = 0 }))) (sym (none id)) tt;
+-- the state that an opening begins with
+abbrev pub first_of : Cells → RunState
+first_of cells = record { cells = cells; writers = λ id. record { first = 0; last = 0 } }
+
+not_growing : (cell : Cell) → IsOpened cell → NotGrowing cell
+not_growing cell (inl is) = subst NotGrowing (sym is) tt
+not_growing cell (inr (inl is)) = subst NotGrowing (sym is.1) tt
+not_growing cell (inr (inr is)) = subst NotGrowing (sym is) tt
+
+-- a session without writers stands for the cells that the opening made
+pub stands_first : {before told : Option (List World)} {volumes : ℕ} {entries : ℕ → Option Entry} {found : ℕ → List Leftover} {past since : ℕ → Files → Type 0} (writers : ℕ → Option Writer) →
+    (opens : Opens before told volumes entries found past since) → ((id : ℕ) → writers id ≡ None) → Standing told volumes entries found writers (first_of opens.cells)
+stands_first {before} {told} {volumes} {entries} {found} writers opens none = record {
+  pool = opens.stands false (λ no. absurd cc);
+  writer = λ id valid. subst (λ w. MatchOption w (NotGrowing (opens.cells id)) (OpenWriter told entries id (opens.cells id) (record { first = 0; last = 0 }))) (sym (none id))
+      (not_growing (opens.cells id) (opens.opened id valid));
 }
 
-module _ {D : Type 0} (worlds : D → Option (List World)) (faults next_number moment volume_count : D → ℕ) (Faulty : ℕ → ℕ → Type 0) where
-  abbrev course_between : D → D → Option (List ℕ) → Course
-  course_between before after input = record { entry = mark_of faults next_number moment before; exit = mark_of faults next_number moment after; told = worlds before; input = input }
+-- the only world of a fresh disk
+abbrev fresh : Files → World
+fresh start = record { settled = start; drafts = [] }
+
+only_fresh : (told : Option (List World)) (start : Files) → HoldsImage told start → (world : World) → IsWorldOf told world → fresh start ≡ world
+only_fresh told start holds world is =
+    only_one (fresh start) world (subst (λ worlds. Contains worlds world) (sym (same_Some _ _ (sym holds ∙ is.1))) is.2)
+
+-- it can leave only its image
+pub only_start : (told : Option (List World)) (start image : Files) → HoldsImage told start → CanLeave told image → image ≡ start
+only_start told start image holds leaves =
+    let world = only_fresh told start holds leaves.0 leaves.1 in
+    fun_ext (λ vol. fun_ext (λ path. (subst (λ (w : World). Rattle.disk_model.specs.Told.Leaves w image) (sym world) leaves.2).settled vol path refl))
+
+-- what reads as the start, the first cells allow
+kind_allows : (files : BlockFiles) (cell : Cell) (replica : Option Replica) → IsOpened cell → MatchOption replica (WaitsExactly files cell) (λ r. cell ≡ final r) → Allows cell replica
+kind_allows files cell (Some r) opened made = subst (λ c. Allows c (Some r)) (sym made) refl
+kind_allows files cell None (inl is) made = subst (λ c. Allows c None) (sym is) refl
+kind_allows files cell None (inr (inr is)) made = subst (λ c. Allows c None) (sym is) refl
+kind_allows files cell None (inr (inl is)) made =
+    let no : LeavesBlockFile files → ⊥ = λ leaves. let bad : final is.0 ≡ waiting = sym is.1 ∙ made.waits leaves in cc in
+    let bad : final is.0 ≡ absent = sym is.1 ∙ made.absent no in absurd cc
+
+start_allows : (files : ℕ → BlockFiles) (cells : Cells) (image : Files) → ((id : ℕ) → IsBlockId id → IsOpened (cells id)) → MakesCells files cells → ReadsAlike files image → AllowsImage cells image
+start_allows files cells image opened made alike id valid =
+    let own = made id valid in
+    record { read = own.replica; reads = alike id valid own.replica own.reads; allowed = kind_allows (files id) (cells id) own.replica (opened id valid) own.made }
+
+pub alike_start : (start image : Files) → image ≡ start → ReadsAlike (block_files start) image
+alike_start start image same = subst (λ (i : Files). ReadsAlike (block_files start) i) (sym same) (λ id valid replica reads. reads)
+
+shown_start : (told : Option (List World)) (start : Files) (world : World) → HoldsImage told start → IsWorldOf told world → (P : (ℕ → BlockFiles) → Type 0) → P (shown_files world) → P (block_files start)
+shown_start told start world holds is P has = subst (λ (w : World). P (shown_files w)) (sym (only_fresh told start holds world is)) has
+
+sound_start : (told : Option (List World)) (start : Files) → HoldsImage told start → IsSound start → InEachWorld told HasSoundFiles
+sound_start told start holds sound world is = subst HasSoundFiles (only_fresh told start holds world is) sound
+
+tells : (told : Option (List World)) (start : Files) → HoldsImage told start → IsSome told
+tells told start holds = subst IsSome (sym holds) refl
+
+module _ {D : Type 0} (worlds : D → Option (List World)) (faults next_number moment volume_count : D → ℕ) (left_since : D → ℕ → Files → Type 0) (Faulty : ℕ → ℕ → Type 0)
+    (before : D) (only_now : (image : Files) → left_since before (moment before) image → CanLeave (worlds before) image) where
+  abbrev course_between : D → Option (List ℕ) → Course
+  course_between after input = record { entry = mark_of faults next_number moment before; exit = mark_of faults next_number moment after; told = worlds before; input = input }
+
+  -- what the opening shows reads as the start
+  reads_start : (after : D) (start : Files) → HoldsImage (worlds before) start → AddsOnly (left_since before) (left_since after) (ReadsAsOne (worlds before)) →
+      (image : Files) → left_since after (moment before) image → ReadsAlike (block_files start) image
+  reads_start after start holds adds image s = elim (adds (moment before) image s) [
+    | inl earlier ↦ alike_start start image (only_start (worlds before) start image holds (only_now image earlier))
+    | inr reads ↦ shown_start (worlds before) start reads.0 holds reads.1 (λ files. ReadsAlike files image) reads.2
+  ]
 
   -- nothing was carried out
-  pub stops_so : (before out known : D) (fault : OpenFault D) (input taken : Option (List ℕ)) (ending : Ending) → out ≡ known → fault_disks fault ≡ known →
+  pub stops_so : (out known : D) (fault : OpenFault D) (input taken : Option (List ℕ)) (ending : Ending) → out ≡ known → fault_disks fault ≡ known →
       GoesOn worlds faults next_number moment volume_count before (fault_disks fault) → IsBeforeOpened ending → WritesReplies ending taken taken [] →
-      (ending ≡ OpenFailed → Rose (faults before) (faults known)) → (ending ≡ Later 0 → (image : Files) → HoldsImage (worlds before) image → HasReplicaName image) →
-      RunsPool Faulty (course_between before out input) taken taken ending
-  stops_so before out known fault input taken ending is of_fault on early written open_fault later =
+      (ending ≡ OpenFailed → Rose (faults before) (faults known)) → (ending ≡ Later 0 → (image : Files) → HoldsImage (worlds before) image → HasTwoMetas image) →
+      AddsOnly (left_since before) (left_since (fault_disks fault)) (ReadsAsOne (worlds before)) →
+      RunsPool Faulty (left_since out) (CanLeave (worlds out)) (course_between out input) taken taken ending
+  stops_so out known fault input taken ending is of_fault on early written open_fault later images =
       let went : GoesOn worlds faults next_number moment volume_count before known = subst (GoesOn worlds faults next_number moment volume_count before) of_fault on in
-      subst (λ d. RunsPool Faulty (course_between before d input) taken taken ending) (sym is) (record {
+      let reads : AddsOnly (left_since before) (left_since known) (ReadsAsOne (worlds before)) = subst (λ (d : D). AddsOnly (left_since before) (left_since d) (ReadsAsOne (worlds before))) of_fault images in
+      subst (λ d. RunsPool Faulty (left_since d) (CanLeave (worlds d)) (course_between d input) taken taken ending) (sym is) (record {
         shown = [];
         goes = inl (record {
           is_before = early;
@@ -45,28 +120,62 @@ module _ {D : Type 0} (worlds : D → Option (List World)) (faults next_number m
           counts = record { faults = went.faults; next_number = went.next_number; moment = went.moment };
           open_fault = open_fault;
           later = later;
+          images = λ start holds image s. reads_start known start holds reads image s;
         });
         written = written;
       })
 
   -- the lines were carried out
-  pub runs_so : (before mid after out : D) (input taken taken' : Option (List ℕ)) (ending : Ending) → out ≡ after → GoesOn worlds faults next_number moment volume_count before mid →
-      Played Faulty (worlds mid) first_state (mark_of faults next_number moment mid) (mark_of faults next_number moment after) input taken taken' ending → IsOfLines ending →
-      ((image : Files) → HoldsImage (worlds before) image → HasReplicaName image → ⊥) →
-      RunsPool Faulty (course_between before out input) taken taken' ending
-  runs_so before mid after out input taken taken' ending is went p of_lines none =
-      subst (λ d. RunsPool Faulty (course_between before d input) taken taken' ending) (sym is) (record {
+  pub runs_so : (mid after out : D) {volumes volumes' : ℕ} {entries entries' : ℕ → Option Entry} {found found' : ℕ → List Leftover} {writers : ℕ → Option Writer} {SoundNow : Cells → Type 0}
+      (input taken taken' : Option (List ℕ)) (ending : Ending) → out ≡ after → GoesOn worlds faults next_number moment volume_count before mid →
+      (opens : Opens (worlds before) (worlds mid) volumes entries found (left_since before) (left_since mid)) →
+      ((image : Files) → left_since mid (moment mid) image → CanLeave (worlds mid) image) →
+      Played Faulty (worlds mid) (first_of opens.cells) (mark_of faults next_number moment mid) (mark_of faults next_number moment after) input taken taken' ending
+      (Standing (worlds after) volumes' entries' found' writers) (PoolStands (worlds mid) volumes entries found true) SoundNow (left_since mid) (left_since after) → IsOfLines ending →
+      ((image : Files) → HoldsImage (worlds before) image → HasTwoMetas image → ⊥) →
+      RunsPool Faulty (left_since out) (CanLeave (worlds out)) (course_between out input) taken taken' ending
+  runs_so mid after out {volumes} {volumes'} {entries} {entries'} {found} {found'} {writers} {SoundNow} input taken taken' ending is went opens only_mid p of_lines one_meta =
+      let made : (start : Files) → HoldsImage (worlds before) start → MakesCells (block_files start) opens.cells = λ start holds.
+      let shows = opens.shown (tells (worlds before) start holds) in
+      shown_start (worlds before) start shows.world holds shows.is (λ files. MakesCells files opens.cells) shows.made in
+      subst (λ d. RunsPool Faulty (left_since d) (CanLeave (worlds d)) (course_between d input) taken taken' ending) (sym is) (record {
         shown = p.shown;
         goes = inr (record {
+          first = first_of opens.cells;
           mark = mark_of faults next_number moment mid;
           turns = p.turns;
-          none = none;
+          opened = opens.opened;
+          one_meta = one_meta;
+          from_start = made;
           counts = record { faults = went.faults; next_number = went.next_number; moment = went.moment };
           follows = λ trust known. p.follows trust (known_on trust (worlds before) (worlds mid) went.honest.0 known);
           at_exit = p.at_mark;
           read = p.read;
           shows = p.shows;
           of_lines = of_lines;
+          images = λ start holds image s. elim (p.crash.images (moment before) image s) [
+            | inl earlier ↦
+                let shows = opens.shown (tells (worlds before) start holds) in
+                let alike : ReadsAlike (block_files start) image = elim (shows.images (moment before) image earlier) [
+                  | inl first ↦ alike_start start image (only_start (worlds before) start image holds (only_now image first))
+                  | inr reads_so ↦ shown_start (worlds before) start shows.world holds shows.is (λ files. ReadsAlike files image) reads_so
+                ] in
+                from_first p.turns image (start_allows (block_files start) opens.cells image opens.opened (made start holds) alike)
+            | inr allows ↦ allows
+          ];
+          images_each = p.crash.each;
+          images_at_exit = λ image leaves. leaves_allowed p.stands.pool image leaves;
+          whole_at_exit = λ image leaves. leaves_whole p.stands.pool image leaves;
+          sound = λ start holds sound image s.
+              let stands = opens.stands true (λ yes. sound_start (worlds before) start holds sound) in
+              elim (p.crash.sound_images stands (moment mid) image s) [
+                | inl earlier ↦ leaves_sound stands image (only_mid image earlier)
+                | inr is_sound ↦ is_sound
+              ];
         });
         written = p.written;
       })
+    where
+      from_first : (turns : List Rattle.dn_play.specs.State.Turn) (image : Files) → AllowsImage opens.cells image → Rattle.dn_play.specs.Images.AllowedByOne (first_of opens.cells) turns image
+      from_first [] image allows = allows
+      from_first (turn ∷ turns) image allows = inl allows

@@ -21,15 +21,20 @@ use Rattle.dn_play.specs.Standing.{IsKnown}
 use Rattle.dn_play.specs.Script.{Script, AtEnd, AtOutside, AtLimit, AtLater, stops, script_after, script_from, script_of, prepend, printed_column}
 use Rattle.dn_play.specs.Session.{Shows, WritesReplies, text_of, Reads, FirstCommands, AllCommands}
 use Rattle.dn_play.specs.Answer.{Answered, Unanswered, FirstOfLine, SaysUpTo, Played, IsOfLines, ending_at}
-use Rattle.dn_play.proofs.Answering.{appends_nothing}
+use Rattle.disk_model.specs.Files.{Files}
+use Rattle.map_model.specs.Cells.{Cells}
+use Rattle.dn_play.specs.Images.{AllowedSince, LinesCrashSafe}
+use Rattle.dn_play.proofs.Crashes.{crash_on}
+use Rattle.dn_play.proofs.Answering.{appends_nothing, no_lines}
 
 -- the lines so far, what is written, and that these lines and the script of what is unread are the whole script
 pub record Progress (Faulty : ℕ → ℕ → Type 0) (told : Option (List World)) (state : RunState) (before now : Mark) (input left : Option (List ℕ)) (pending : List ℕ) (number count : ℕ)
-    (taken taken' : Option (List ℕ)) (StandsFor : RunState → Type 0) : Type 0 where
+    (taken taken' : Option (List ℕ)) (StandsFor : RunState → Type 0) (Sound SoundNow : Cells → Type 0) (past since : ℕ → Files → Type 0) : Type 0 where
   pub turns : List Turn
   pub follows : (trust : Trust) → IsKnown trust told → Follows trust Faulty state before turns
   pub stands : StandsFor (last_state state turns)
   pub at_mark : last_mark before turns ≡ now
+  pub crash : LinesCrashSafe before state turns Sound SoundNow past since
   pub written : Appends taken taken' (text_of (turn_replies turns))
   pub read : OfUnread (λ unread rest. script_of unread ≡ prepend (turn_lines turns) (script_from number count (terminated_lines rest))) [] input pending left
 
@@ -235,15 +240,17 @@ all_follow : (Faulty : ℕ → ℕ → Type 0) (told told_now : Option (List Wor
 all_follow Faulty told told_now state before now honest turns more at_mark so_far follows trust known = follows_append trust Faulty state before turns more (so_far trust known)
     (subst (λ m. Follows trust Faulty (last_state state turns) m more) (sym at_mark) (follows trust (known_on trust told told_now honest known)))
 
-module _ {Faulty : ℕ → ℕ → Type 0} {told : Option (List World)} {state : RunState} {before : Mark} where
+module _ {Faulty : ℕ → ℕ → Type 0} {told : Option (List World)} {state : RunState} {before : Mark} {StandsFor : RunState → Type 0} {Sound : Cells → Type 0} {past : ℕ → Files → Type 0}
+    (stands : StandsFor state) (from_now : AllowedSince past before.moment state []) where
   -- nothing was read yet
-  pub starts : {StandsFor : RunState → Type 0} (input : Option (List ℕ)) (pending : List ℕ) (count : ℕ) (taken : Option (List ℕ)) → StandsFor state → pending ≡ [] → count ≡ 0 →
-      Progress Faulty told state before before input input pending 0 count taken taken StandsFor
-  starts input pending count taken stands none zero_count = record {
+  pub starts : (input : Option (List ℕ)) (pending : List ℕ) (count : ℕ) (taken : Option (List ℕ)) → pending ≡ [] → count ≡ 0 →
+      Progress Faulty told state before before input input pending 0 count taken taken StandsFor Sound Sound past past
+  starts input pending count taken none zero_count = record {
     turns = [];
     follows = λ trust known. tt;
     stands = stands;
     at_mark = refl;
+    crash = no_lines from_now;
     written = appends_nothing taken;
     read = at_start input;
   }
@@ -253,26 +260,31 @@ module _ {Faulty : ℕ → ℕ → Type 0} {told : Option (List World)} {state :
       at_start (Some bytes) = ap (λ p. script_from 0 0 (terminated_lines (p ++ bytes))) (sym none) ∙ ap (λ k. script_from 0 k (terminated_lines (pending ++ bytes))) (sym zero_count)
 
   -- no memory before the first line
-  pub played_nothing : (input taken : Option (List ℕ)) → Played Faulty told state before before input taken taken NoMemory
+  pub played_nothing : (input taken : Option (List ℕ)) → Played Faulty told state before before input taken taken NoMemory StandsFor Sound Sound past past
   played_nothing input taken = record {
     turns = [];
     shown = [];
     follows = λ trust known. tt;
+    stands = stands;
     at_mark = refl;
+    crash = no_lines from_now;
     read = nothing_so_far input;
     shows = ([], refl, omega arith);
     written = appends_nothing taken;
   }
 
-  module _ {now : Mark} {StandsFor : RunState → Type 0} (input left : Option (List ℕ)) (pending : List ℕ) (number count : ℕ) (taken taken' : Option (List ℕ))
-      (p : Progress Faulty told state before now input left pending number count taken taken' StandsFor) where
+module _ {Faulty : ℕ → ℕ → Type 0} {told : Option (List World)} {state : RunState} {before : Mark} where
+  module _ {now : Mark} {StandsFor : RunState → Type 0} {Sound SoundNow : Cells → Type 0} {past since : ℕ → Files → Type 0} (input left : Option (List ℕ)) (pending : List ℕ) (number count : ℕ) (taken taken' : Option (List ℕ))
+      (p : Progress Faulty told state before now input left pending number count taken taken' StandsFor Sound SoundNow past since) where
     -- no line is left
-    pub played_complete : (left' : Option (List ℕ)) (pending' : List ℕ) → OfUnread (λ unread rest. (unread ≡ []) × (rest ≡ [])) pending left pending' left' → Played Faulty told state before now input taken taken' Complete
+    pub played_complete : (left' : Option (List ℕ)) (pending' : List ℕ) → OfUnread (λ unread rest. (unread ≡ []) × (rest ≡ [])) pending left pending' left' → Played Faulty told state before now input taken taken' Complete StandsFor Sound SoundNow past since
     played_complete left' pending' h = record {
       turns = p.turns;
       shown = turn_replies p.turns;
       follows = p.follows;
+      stands = p.stands;
       at_mark = p.at_mark;
+      crash = p.crash;
       read = unread_both (λ unread rest. script_of unread ≡ prepend (turn_lines p.turns) (script_from number count (terminated_lines rest))) (λ unread rest. (unread ≡ []) × (rest ≡ []))
           (λ bytes. AllCommands bytes (turn_lines p.turns) AtEnd) pending pending' input left left' p.read h
           (λ u m r e k. e ∙ ap (prepend (turn_lines p.turns)) (at_end_of number count m k.0) ∙ ap (λ (c : List Line). record { commands = c; stop = AtEnd }) (append-nil (turn_lines p.turns)));
@@ -281,12 +293,14 @@ module _ {Faulty : ℕ → ℕ → Type 0} {told : Option (List World)} {state :
     }
 
     -- a line that can't be read
-    pub played_fault : (fault : ReadFault) → (fault ≡ LineLimit → IfSome left (λ l. FirstPassesLimit count (pending ++ l))) → Played Faulty told state before now input taken taken' (ending_at fault (number + 1))
+    pub played_fault : (fault : ReadFault) → (fault ≡ LineLimit → IfSome left (λ l. FirstPassesLimit count (pending ++ l))) → Played Faulty told state before now input taken taken' (ending_at fault (number + 1)) StandsFor Sound SoundNow past since
     played_fault Source h = record {
       turns = p.turns;
       shown = turn_replies p.turns;
       follows = p.follows;
+      stands = p.stands;
       at_mark = p.at_mark;
+      crash = p.crash;
       read = first_so_far input left pending number count (turn_lines p.turns) p.read;
       shows = refl;
       written = p.written;
@@ -295,7 +309,9 @@ module _ {Faulty : ℕ → ℕ → Type 0} {told : Option (List World)} {state :
       turns = p.turns;
       shown = turn_replies p.turns;
       follows = p.follows;
+      stands = p.stands;
       at_mark = p.at_mark;
+      crash = p.crash;
       read = unread_one (λ unread rest. script_of unread ≡ prepend (turn_lines p.turns) (script_from number count (terminated_lines rest))) (FirstPassesLimit count)
           (λ bytes. AllCommands bytes (turn_lines p.turns) (AtLimit (number + 1))) pending input left p.read (h refl)
           (λ u m e k. e ∙ ap (prepend (turn_lines p.turns)) (script_at_limit number count m k) ∙ ap (λ (c : List Line). record { commands = c; stop = AtLimit (number + 1) }) (append-nil (turn_lines p.turns)));
@@ -306,7 +322,9 @@ module _ {Faulty : ℕ → ℕ → Type 0} {told : Option (List World)} {state :
       turns = p.turns;
       shown = turn_replies p.turns;
       follows = p.follows;
+      stands = p.stands;
       at_mark = p.at_mark;
+      crash = p.crash;
       read = first_so_far input left pending number count (turn_lines p.turns) p.read;
       shows = ([], sym (append-nil (turn_replies p.turns)), omega arith);
       written = p.written;
@@ -318,13 +336,14 @@ module _ {Faulty : ℕ → ℕ → Type 0} {told : Option (List World)} {state :
       marks_on more at = last_mark-append before p.turns more ∙ ap (λ m. last_mark m more) p.at_mark ∙ at
 
       -- a line that is answered
-      pub goes_on_by : {StandsThen : RunState → Type 0} → Answered Faulty told_now (last_state state p.turns) now after taken' taken'' shown_text StandsThen →
-          Progress Faulty told state before after input left' pending' (number + 1) count' taken taken'' StandsThen
+      pub goes_on_by : {StandsThen : RunState → Type 0} {SoundThen : Cells → Type 0} {then : ℕ → Files → Type 0} → Answered Faulty told_now (last_state state p.turns) now after taken' taken'' shown_text StandsThen SoundNow SoundThen since then →
+          Progress Faulty told state before after input left' pending' (number + 1) count' taken taken'' StandsThen Sound SoundThen past then
       goes_on_by {StandsThen} a = record {
         turns = p.turns ++ a.turns;
         follows = all_follow Faulty told told_now state before now honest p.turns a.turns p.at_mark p.follows a.follows;
         stands = subst StandsThen (sym (last_state-append state p.turns a.turns)) a.stands;
         at_mark = marks_on a.turns a.at_mark;
+        crash = crash_on p.at_mark p.crash a.crash;
         written = subst (λ r. Appends taken taken'' (text_of r)) (sym (turn_replies-append p.turns a.turns)) (appends_replies taken taken' taken'' (turn_replies p.turns) (turn_replies a.turns) p.written a.written);
         read = subst (λ c. OfUnread (λ unread rest. script_of unread ≡ prepend c (script_from (number + 1) count' (terminated_lines rest))) [] input pending' left') (sym (turn_lines-append p.turns a.turns))
             (unread_chain
@@ -338,12 +357,16 @@ module _ {Faulty : ℕ → ℕ → Type 0} {told : Option (List World)} {state :
       }
 
       -- a line that is not answered, or not wholly
-      pub played_unanswered : (ending : Ending) → Unanswered Faulty told_now (last_state state p.turns) now after taken' taken'' (number + 1) shown_text ending → Played Faulty told state before after input taken taken'' ending
-      played_unanswered ending u = record {
+      pub played_unanswered : {StandsThen : RunState → Type 0} {SoundThen : Cells → Type 0} {then : ℕ → Files → Type 0} (ending : Ending) →
+          Unanswered Faulty told_now (last_state state p.turns) now after taken' taken'' (number + 1) shown_text ending StandsThen SoundNow SoundThen since then →
+          Played Faulty told state before after input taken taken'' ending StandsThen Sound SoundThen past then
+      played_unanswered {StandsThen} ending u = record {
         turns = p.turns ++ u.turns;
         shown = turn_replies p.turns ++ u.shown;
         follows = all_follow Faulty told told_now state before now honest p.turns u.turns p.at_mark p.follows u.follows;
+        stands = subst StandsThen (sym (last_state-append state p.turns u.turns)) u.stands;
         at_mark = marks_on u.turns u.at_mark;
+        crash = crash_on p.at_mark p.crash u.crash;
         read = subst (λ c. IfSome input (λ bytes. Reads bytes c ending)) (sym (turn_lines-append p.turns u.turns))
             (reads_on input left left' pending pending' number count count' text (turn_lines p.turns) (turn_lines u.turns) ending p.read t (subst (λ s. SaysUpTo (number + 1) s (turn_lines u.turns) ending) same_text u.says));
         shows = subst (λ r. Shows r ending (turn_replies p.turns ++ u.shown)) (sym (turn_replies-append p.turns u.turns)) (shows_on (turn_replies p.turns) (turn_replies u.turns) u.shown ending u.shows);

@@ -1,24 +1,28 @@
--- Steps of the four commands, and what their replies say.
-use Rattle.std.proofs.Common.{◌≡◌, ◌<◌, ◌≤◌, inl, inr, ℕ, true, false, List, length, take, Option, None, Some, refl, sym, ◌∙◌, ap, subst, arith, IsSomeAnd, IfSome, nat_lt}
+-- Steps of the commands, and what their replies say.
+use Rattle.std.proofs.Common.{◌≡◌, ◌⊎◌, ◌<◌, ◌≤◌, ◌^◌, inl, inr, ℕ, MatchOption, true, false, List, length, take, Option, None, Some, refl, sym, ◌∙◌, ap, subst, arith, IsSomeAnd, IfSome, nat_lt}
 use Rattle.std.proofs.lemmas.Bool.Decides.{nat_tests}
 use Rattle.std.proofs.lemmas.Option.{same_Some}
 use Rattle.std.proofs.Math.Seq.{take-length}
 use Rattle.disk_model.specs.Worlds.{World, DraftPlace, draft_at}
 use Rattle.disk_model.specs.Causes.{FaultyOne}
-use Rattle.map_model.specs.Cells.{Replica, Cell, absent, final, growing, unsure, waiting}
-use Rattle.map_model.specs.Steps.{Step, start_write, push, finish, read, content, is_waiting, failed, memory, over, no_writer}
+use Rattle.map_model.specs.Cells.{Replica, Cell, Cells, absent, final, growing, unsure, waiting}
+use Rattle.map_model.specs.Steps.{Reply as Answer, Step, CarriedOut, cell_after, success, start_write, push, finish, write, read, delete, write_refusal, delete_refusal, half_deleted, content, done, no_block, is_writing, is_waiting, failed, memory, over, no_writer}
 use Rattle.pool_state.specs.declared.start_fault.StartFault.{StartFault}
 use Rattle.pool_state.specs.declared.start_fault.StartFault.TheVariants.{Exists as WasThere, None as WasAbsent, Writing as WasWriting, Waiting as WasWaiting, Unsure as WasUnsure, Failed as HasFailed, Memory as NoMemory}
-use Rattle.pool_state.specs.Answers.{unlimited, start_fault, GivenBetween}
+use Rattle.pool_state.specs.declared.deleting.DeleteFault.{DeleteFault}
+use Rattle.pool_state.specs.declared.deleting.DeleteFault.TheVariants.{None as NotThere, Writing as IsWrittenNow, Failed as RemovalFailed}
+use Rattle.pool_state.specs.Answers.{unlimited, start_fault, delete_fault, GivenBetween}
 use Rattle.pool_state.specs.Writers.{Writer, FailedOf}
 use Rattle.pool_state.specs.Readers.{Lends, FaultyReader}
 use Rattle.script_lang.specs.declared.reply.Reply.{Reply}
 use Rattle.script_lang.specs.declared.reply.Reply.TheVariants.{Data, Short}
 use Rattle.script_lang.specs.declared.Line.{Line}
 use Rattle.dn_play.specs.State.{Numbers, RunState, Mark}
+use Rattle.disk_model.specs.Files.{Files}
 use Rattle.dn_play.specs.Lines.{Does}
+use Rattle.dn_play.specs.Images.{CrashSafe}
 use Rattle.dn_play.specs.Commands.{Trust, any_disks, telling_disks, Says, Gives, begins_writer}
-use Rattle.dn_play.specs.Replies.{refusal_reply}
+use Rattle.dn_play.specs.Replies.{refusal_reply, deletion_reply}
 use Rattle.dn_play.specs.Standing.{NotGrowing, IsKnown, LineCarried}
 
 -- the reply of a refused start
@@ -152,12 +156,125 @@ faulty_reader number_of faults_of first last (Some r) failed_one lent =
     let at : number_of failed_one.one ≡ number_of r = failed_one.number_is in
     record { one = failed_one.one; faulty = failed_one.faulty; since = omega (arith, at, lent.since); before = omega (arith, at, lent.before) }
 
+-- different answers
+pub done_not_failed : done ≡ failed → ⊥
+done_not_failed same = cc
+
+pub done_not_memory : done ≡ memory → ⊥
+done_not_memory same = cc
+
+pub failed_not_memory : failed ≡ memory → ⊥
+failed_not_memory same = cc
+
+pub memory_not_failed : memory ≡ failed → ⊥
+memory_not_failed same = cc
+
+-- no length is refused
+free_write : (len : ℕ) → len < 2 ^ 64 → write_refusal unlimited absent len ≡ None
+free_write len fits = grind (arith, nat_tests)
+
+-- a write of an absent block that is carried out
+pub write_of : (cell : Cell) (stamp : ℕ) (bytes : List ℕ) (reply : Answer) (after : Cell) → cell ≡ absent → length bytes < 2 ^ 64 → CarriedOut absent (write stamp bytes) reply after →
+    Step unlimited cell (write stamp bytes) reply after
+write_of cell stamp bytes reply after is fits out = subst (λ c. Step unlimited c (write stamp bytes) reply after) (sym is) (rw (free_write (length bytes) fits) out)
+
+-- a start that is refused refuses the write
+started_absent : (stamp : ℕ) (bytes : List ℕ) (fault : StartFault) → length bytes < 2 ^ 64 → Step unlimited absent (start_write stamp (length bytes)) (start_fault fault) absent →
+    CarriedOut absent (start_write stamp (length bytes)) (start_fault fault) absent
+started_absent stamp bytes fault fits step = subst (λ o. MatchOption o (CarriedOut absent (start_write stamp (length bytes)) (start_fault fault) absent) (λ refused. (start_fault fault ≡ refused) × (absent ≡ absent))) (free_write (length bytes) fits) step
+
+never_absent : (stamp len : ℕ) (fault : StartFault) → (fault ≡ HasFailed → ⊥) → (fault ≡ NoMemory → ⊥) → CarriedOut absent (start_write stamp len) (start_fault fault) absent → ⊥
+never_absent stamp len WasThere not_failed not_memory out = let bad : Rattle.map_model.specs.Steps.exists ≡ Rattle.map_model.specs.Steps.done = out.0 in cc
+never_absent stamp len WasAbsent not_failed not_memory out = let bad : Rattle.map_model.specs.Steps.no_block ≡ Rattle.map_model.specs.Steps.done = out.0 in cc
+never_absent stamp len WasWriting not_failed not_memory out = let bad : Rattle.map_model.specs.Steps.is_writing ≡ Rattle.map_model.specs.Steps.done = out.0 in cc
+never_absent stamp len WasWaiting not_failed not_memory out = let bad : Rattle.map_model.specs.Steps.is_waiting ≡ Rattle.map_model.specs.Steps.done = out.0 in cc
+never_absent stamp len WasUnsure not_failed not_memory out = let bad : Rattle.map_model.specs.Steps.is_unsure ≡ Rattle.map_model.specs.Steps.done = out.0 in cc
+never_absent stamp len HasFailed not_failed not_memory out = not_failed refl
+never_absent stamp len NoMemory not_failed not_memory out = not_memory refl
+
+pub write_refused : (cell : Cell) (stamp : ℕ) (bytes : List ℕ) (fault : StartFault) → length bytes < 2 ^ 64 → (fault ≡ HasFailed → ⊥) → (fault ≡ NoMemory → ⊥) →
+    Step unlimited cell (start_write stamp (length bytes)) (start_fault fault) cell → Step unlimited cell (write stamp bytes) (start_fault fault) cell
+write_refused absent stamp bytes fault fits not_failed not_memory step = absurd (never_absent stamp (length bytes) fault not_failed not_memory (started_absent stamp bytes fault fits step))
+write_refused (final replica) stamp bytes fault fits not_failed not_memory step = step
+write_refused (growing now base grown left) stamp bytes fault fits not_failed not_memory step = step
+write_refused (unsure x y cut) stamp bytes fault fits not_failed not_memory step = step
+write_refused waiting stamp bytes fault fits not_failed not_memory step = step
+
+-- a start that fails, or finds no memory, ends the write so
+pub write_unstarted : (cell : Cell) (stamp : ℕ) (bytes : List ℕ) (fault : StartFault) (after : Cell) → cell ≡ absent → length bytes < 2 ^ 64 → (after ≡ cell) ⊎ (after ≡ waiting) →
+    Step unlimited cell (start_write stamp (length bytes)) (start_fault fault) after → Step unlimited cell (write stamp bytes) (start_fault fault) after
+write_unstarted cell stamp bytes fault after is fits left step =
+    let at : Step unlimited absent (start_write stamp (length bytes)) (start_fault fault) after = subst (λ c. Step unlimited c (start_write stamp (length bytes)) (start_fault fault) after) is step in
+    let out : CarriedOut absent (start_write stamp (length bytes)) (start_fault fault) after =
+    subst (λ o. MatchOption o (CarriedOut absent (start_write stamp (length bytes)) (start_fault fault) after) (λ refused. (start_fault fault ≡ refused) × (after ≡ absent))) (free_write (length bytes) fits) at in
+    write_of cell stamp bytes (start_fault fault) after is fits (unstarted stamp bytes fault after out)
+  where
+    unstarted : (stamp : ℕ) (bytes : List ℕ) (fault : StartFault) (after : Cell) → CarriedOut absent (start_write stamp (length bytes)) (start_fault fault) after → CarriedOut absent (write stamp bytes) (start_fault fault) after
+    unstarted stamp bytes WasThere after out = absurd (let bad : Rattle.map_model.specs.Steps.exists ≡ Rattle.map_model.specs.Steps.done = out.0 in cc)
+    unstarted stamp bytes WasAbsent after out = absurd (let bad : Rattle.map_model.specs.Steps.no_block ≡ Rattle.map_model.specs.Steps.done = out.0 in cc)
+    unstarted stamp bytes WasWriting after out = absurd (let bad : Rattle.map_model.specs.Steps.is_writing ≡ Rattle.map_model.specs.Steps.done = out.0 in cc)
+    unstarted stamp bytes WasWaiting after out = absurd (let bad : Rattle.map_model.specs.Steps.is_waiting ≡ Rattle.map_model.specs.Steps.done = out.0 in cc)
+    unstarted stamp bytes WasUnsure after out = absurd (let bad : Rattle.map_model.specs.Steps.is_unsure ≡ Rattle.map_model.specs.Steps.done = out.0 in cc)
+    unstarted stamp bytes HasFailed after out = elim out [ inl same ↦ inl same | inr waits ↦ inr (inl waits) ]
+    unstarted stamp bytes NoMemory after out = out
+
+pub write_begins_nothing : (stamp : ℕ) (bytes : List ℕ) (answer : Answer) → begins_writer (write stamp bytes) answer ≡ false
+write_begins_nothing stamp bytes answer = refl
+
+-- a deletion that isn't refused is of a block without a writer
+pub deletable : (cell : Cell) → delete_refusal cell ≡ None → NotGrowing cell
+deletable absent is = tt
+deletable (final replica) is = tt
+deletable (growing stamp base bytes left) is = absurd cc
+deletable (unsure x y cut) is = tt
+deletable waiting is = tt
+
+pub deleted_rests : (cell : Cell) → delete_refusal cell ≡ None → NotGrowing (half_deleted cell)
+deleted_rests absent is = tt
+deleted_rests (final replica) is = tt
+deleted_rests (growing stamp base bytes left) is = absurd cc
+deleted_rests (unsure x y cut) is = tt
+deleted_rests waiting is = tt
+
+says_deletion : (trust : Trust) (fault : DeleteFault) → Says trust (delete_fault fault) (deletion_reply fault)
+says_deletion trust NotThere = refl
+says_deletion trust IsWrittenNow = refl
+says_deletion trust RemovalFailed = refl
+
+pub says_delete : (trust : Trust) (fault : DeleteFault) (reply : Reply) → reply ≡ deletion_reply fault → Says trust (delete_fault fault) reply
+says_delete trust fault reply is = subst (Says trust (delete_fault fault)) (sym is) (says_deletion trust fault)
+
+pub delete_not_failed : (fault : DeleteFault) → (fault ≡ RemovalFailed → ⊥) → delete_fault fault ≡ failed → ⊥
+delete_not_failed NotThere never same = cc
+delete_not_failed IsWrittenNow never same = cc
+delete_not_failed RemovalFailed never same = never refl
+
+pub delete_not_memory : (fault : DeleteFault) → delete_fault fault ≡ memory → ⊥
+delete_not_memory NotThere same = cc
+delete_not_memory IsWrittenNow same = cc
+delete_not_memory RemovalFailed same = cc
+
+deletes_so : (cell : Cell) → delete_refusal cell ≡ None → (answer : Answer) → (answer ≡ done → ⊥) → answer ≡ success cell delete → ⊥
+deletes_so absent free answer not_done same = absurd cc
+deletes_so (final replica) free answer not_done same = not_done same
+deletes_so (growing stamp base bytes left) free answer not_done same = absurd cc
+deletes_so (unsure x y cut) free answer not_done same = not_done same
+deletes_so waiting free answer not_done same = not_done same
+
+-- of a block that can be deleted, the only fault is that of the disks
+pub only_failure : (cell after : Cell) (fault : DeleteFault) → delete_refusal cell ≡ None → Step unlimited cell delete (delete_fault fault) after → fault ≡ RemovalFailed
+only_failure cell after NotThere free step = let out : (no_block ≡ success cell delete) × (cell_after cell delete ≡ Some after) = subst (λ o. MatchOption o (CarriedOut cell delete no_block after) (λ refused. (no_block ≡ refused) × (after ≡ cell))) free step in absurd (deletes_so cell free no_block (λ same. cc) out.0)
+only_failure cell after IsWrittenNow free step = let out : (is_writing ≡ success cell delete) × (cell_after cell delete ≡ Some after) = subst (λ o. MatchOption o (CarriedOut cell delete is_writing after) (λ refused. (is_writing ≡ refused) × (after ≡ cell))) free step in absurd (deletes_so cell free is_writing (λ same. cc) out.0)
+only_failure cell after RemovalFailed free step = refl
+
 -- a line that is known
-pub carried : {Faulty : ℕ → ℕ → Type 0} {told : Option (List World)} {old : RunState} {before : Mark} {line known_line : Line} {reply : Reply} {after : Mark} {StandsFor : RunState → Type 0} →
+pub carried : {Faulty : ℕ → ℕ → Type 0} {told : Option (List World)} {old : RunState} {before : Mark} {line known_line : Line} {reply : Reply} {after : Mark} {StandsFor : RunState → Type 0}
+    {Sound SoundNow : Cells → Type 0} {past since : ℕ → Files → Type 0} →
     line ≡ known_line → (new : RunState) → StandsFor new → ((trust : Trust) → IsKnown trust told → Does trust Faulty old before known_line reply new after) →
-    LineCarried Faulty told old before line reply after StandsFor
-carried {Faulty} {told} {old} {before} {line} {known_line} {reply} {after} is new stands does = record {
+    CrashSafe old.cells new.cells Sound SoundNow past since → LineCarried Faulty told old before line reply after StandsFor Sound SoundNow past since
+carried {Faulty} {told} {old} {before} {line} {known_line} {reply} {after} is new stands does crash = record {
   new = new;
   stands = stands;
   does = λ trust known. subst (λ l. Does trust Faulty old before l reply new after) (sym is) (does trust known);
+  crash = crash;
 }

@@ -1,5 +1,5 @@
 -- How a session goes on to stand for another state.
-use Rattle.std.proofs.Common.{◌≡◌, ◌≢◌, ◌-◌, ◌<◌, inl, inr, ℕ, ◌==◌, ◌&&◌, if◌then◌else◌, false, List, Option, None, Some, refl, sym, ◌∙◌, ap, subst, IsSome, option_map, IfSome}
+use Rattle.std.proofs.Common.{◌≡◌, ◌≢◌, ◌-◌, ◌<◌, inl, inr, ℕ, ◌==◌, ◌&&◌, if◌then◌else◌, true, false, List, Option, None, Some, refl, sym, ◌∙◌, ap, subst, IsSome, option_map, IfSome}
 use Rattle.std.specs.Prelude.{MatchOption, Bool}
 use Rattle.std.proofs.lemmas.Option.{same_Some}
 use Rattle.std.proofs.lemmas.Bool.{cases_eq, eq-eqb, ne_eqb}
@@ -7,7 +7,10 @@ use Rattle.disk_model.specs.Worlds.{World, DraftPlace, draft_at}
 use Rattle.map_model.specs.Cells.{Cell, Cells, growing, waiting}
 use Rattle.map_model.specs.Steps.{Command, Step, Reply as Answer, failed, memory}
 use Rattle.pool_state.specs.declared.entry.Entry.{Entry}
-use Rattle.pool_state.specs.Answers.{unlimited, GivenBetween}
+use Rattle.disk_model.specs.Files.{Files}
+use Rattle.map_model.specs.Stands.{Leftover}
+use Rattle.pool_state.specs.Answers.{unlimited, GivenBetween, StepsTo, TakesStep, IsQuiet}
+use Rattle.dn_play.specs.Images.{CrashSafe}
 use Rattle.pool_state.specs.Stands.{with_cell, PoolStands}
 use Rattle.pool_state.specs.Writers.{Writer, WriterStands, Keeps}
 use Rattle.script_lang.specs.declared.reply.Reply.{Reply}
@@ -58,14 +61,14 @@ keeps_open told told' entries entries' id cell numbers None honest same here = h
 keeps_open told told' entries entries' id cell numbers (Some w) honest same here = open_on told told' entries entries' id cell numbers w honest same here
 
 -- A TENURE ON ONE BLOCK: the others' writers stay
-pub goes_on : {told told' : Option (List World)} {volumes volumes' : ℕ} {entries entries' : ℕ → Option Entry} {writers writers' : ℕ → Option Writer} {state : RunState} →
-    Standing told volumes entries writers state → (id : ℕ) (cell : Cell) (numbers : ℕ → Numbers) →
-    PoolStands told' volumes' entries' (with_cell state.cells id cell) → (IsSome told' → IsSome told) →
+pub goes_on : {told told' : Option (List World)} {volumes volumes' : ℕ} {entries entries' : ℕ → Option Entry} {found found' : ℕ → List Leftover} {writers writers' : ℕ → Option Writer} {state : RunState} →
+    Standing told volumes entries found writers state → (id : ℕ) (cell : Cell) (numbers : ℕ → Numbers) →
+    PoolStands told' volumes' entries' found' false (with_cell state.cells id cell) → (IsSome told' → IsSome told) →
     ((other : ℕ) → other ≢ id → entries' other ≡ entries other) → ((other : ℕ) → other ≢ id → writers' other ≡ writers other) →
     ((other : ℕ) → other ≢ id → numbers other ≡ state.writers other) →
     MatchOption (writers' id) (NotGrowing cell) (OpenWriter told' entries' id cell (numbers id)) →
-    Standing told' volumes' entries' writers' (record { cells = with_cell state.cells id cell; writers = numbers })
-goes_on {told} {told'} {volumes} {volumes'} {entries} {entries'} {writers} {writers'} {state} standing id cell numbers pool honest entries_stay writers_stay numbers_stay own = record {
+    Standing told' volumes' entries' found' writers' (record { cells = with_cell state.cells id cell; writers = numbers })
+goes_on {told} {told'} {volumes} {volumes'} {entries} {entries'} {found} {found'} {writers} {writers'} {state} standing id cell numbers pool honest entries_stay writers_stay numbers_stay own = record {
   pool = pool;
   writer = λ other valid. elim (cases_eq other id) [
     | inl same ↦
@@ -80,10 +83,10 @@ goes_on {told} {told'} {volumes} {volumes'} {entries} {entries'} {writers} {writ
 }
 
 -- where the same cells stand, and the same writers are open
-pub stays_on : {told told' : Option (List World)} {volumes volumes' : ℕ} {entries entries' : ℕ → Option Entry} {writers writers' : ℕ → Option Writer} {state : RunState} →
-    Standing told volumes entries writers state → PoolStands told' volumes' entries' state.cells → (IsSome told' → IsSome told) →
-    ((id : ℕ) → entries' id ≡ entries id) → ((id : ℕ) → writers' id ≡ writers id) → Standing told' volumes' entries' writers' state
-stays_on {told} {told'} {volumes} {volumes'} {entries} {entries'} {writers} {writers'} {state} standing pool honest entries_stay writers_stay = record {
+pub stays_on : {told told' : Option (List World)} {volumes volumes' : ℕ} {entries entries' : ℕ → Option Entry} {found found' : ℕ → List Leftover} {writers writers' : ℕ → Option Writer} {state : RunState} →
+    Standing told volumes entries found writers state → PoolStands told' volumes' entries' found' false state.cells → (IsSome told' → IsSome told) →
+    ((id : ℕ) → entries' id ≡ entries id) → ((id : ℕ) → writers' id ≡ writers id) → Standing told' volumes' entries' found' writers' state
+stays_on {told} {told'} {volumes} {volumes'} {entries} {entries'} {found} {found'} {writers} {writers'} {state} standing pool honest entries_stay writers_stay = record {
   pool = pool;
   writer = λ id valid.
       subst (λ w. MatchOption w (NotGrowing (state.cells id)) (OpenWriter told' entries' id (state.cells id) (state.writers id))) (sym (writers_stay id))
@@ -186,13 +189,43 @@ made_number place first last (Some d) m vol path is made = subst (GivenBetween f
 begins_none : (b : Bool) (id : ℕ) (other : ℕ) (new old : Numbers) → b ≡ false → old ≡ (if b && other == id then new else old)
 begins_none b id other new old same = rw same refl
 
-module _ {Faulty : ℕ → ℕ → Type 0} {told : Option (List World)} {old : RunState} {before after : Mark} {id : ℕ} {command : Command} {reply : Reply} {StandsFor : RunState → Type 0} where
+-- a tenure at another name of its block
+pub at_block : {id other : ℕ} {command : Command} {answer : Answer} {SaysOf : Cell → Type 0} {cells : Cells} {Stood StandsFor : Bool → Cells → Type 0} {past since : ℕ → Files → Type 0} →
+    id ≡ other → TakesStep id command answer SaysOf cells Stood StandsFor past since → TakesStep other command answer SaysOf cells Stood StandsFor past since
+at_block {id} {other} {command} {answer} {SaysOf} {cells} {Stood} {StandsFor} {past} {since} same step =
+    subst (λ n. TakesStep n command answer SaysOf cells Stood StandsFor past since) same step
+
+pub at_block_steps : {id other : ℕ} {command : Command} {answer : Answer} {SaysOf : Cell → Type 0} {cells : Cells} {Stood StandsFor : Bool → Cells → Type 0} →
+    id ≡ other → StepsTo id command answer SaysOf cells Stood StandsFor → StepsTo other command answer SaysOf cells Stood StandsFor
+at_block_steps {id} {other} {command} {answer} {SaysOf} {cells} {Stood} {StandsFor} same step = subst (λ n. StepsTo n command answer SaysOf cells Stood StandsFor) same step
+
+-- what a crash can leave: of a tenure that takes a step, of a quiet one, and of none
+pub crash_takes : {id : ℕ} {command : Command} {answer : Answer} {SaysOf : Cell → Type 0} {cells : Cells} {Stood StandsFor : Bool → Cells → Type 0} {past since : ℕ → Files → Type 0} →
+    (step : TakesStep id command answer SaysOf cells Stood StandsFor past since) → CrashSafe cells (with_cell cells id step.to.cell) (Stood true) (StandsFor true) past since
+crash_takes step = record { images = step.images; sound = step.to.stands true; sound_images = step.sound_images }
+
+pub crash_rests : {cells : Cells} {Stood StandsFor : Bool → Cells → Type 0} {past since : ℕ → Files → Type 0} → IsQuiet cells Stood StandsFor past since →
+    CrashSafe cells cells (Stood true) (StandsFor true) past since
+crash_rests quiet = record {
+  images = λ t image s. elim (quiet.images t image s) [ inl earlier ↦ inl earlier | inr allows ↦ inr (inl allows) ];
+  sound = quiet.stands true;
+  sound_images = quiet.sound_images;
+}
+
+pub crash_same : (cells : Cells) (Sound : Cells → Type 0) (past : ℕ → Files → Type 0) → CrashSafe cells cells Sound Sound past past
+crash_same cells Sound past = record { images = λ t image s. inl s; sound = λ sound. sound; sound_images = λ sound t image s. inl s }
+
+pub crash_only : {cells after : Cells} {Sound SoundNow : Cells → Type 0} {past : ℕ → Files → Type 0} → (Sound cells → SoundNow after) → CrashSafe cells after Sound SoundNow past past
+crash_only sound = record { images = λ t image s. inl s; sound = sound; sound_images = λ was t image s. inl s }
+
+module _ {Faulty : ℕ → ℕ → Type 0} {told : Option (List World)} {old : RunState} {before after : Mark} {id : ℕ} {command : Command} {reply : Reply} {StandsFor : RunState → Type 0}
+    {Sound SoundNow : Cells → Type 0} {past since : ℕ → Files → Type 0} where
   -- a command that leaves the state as it was
-  pub carried_same : StandsFor old → (answer : Answer) → ((trust : Trust) → IsKnown trust told → Says trust answer reply) →
-      Step unlimited (old.cells id) command answer (old.cells id) → (answer ≡ failed → FailsBy Faulty before after (old.writers id) command (old.cells id)) →
+  pub carried_same : StandsFor old → CrashSafe old.cells old.cells Sound SoundNow past since → (answer : Answer) → ((trust : Trust) → IsKnown trust told → Says trust answer reply) →
+      Step unlimited (old.cells id) command answer (old.cells id) → (answer ≡ failed → FailsBy Faulty before after (old.writers id) (old.cells id) command (old.cells id)) →
       (answer ≡ memory → old.cells id ≡ waiting → before.next_number < after.next_number) → begins_writer command answer ≡ false →
-      CarriesOut Faulty told old before id command reply after StandsFor
-  carried_same stands answer says step fault lack begins = record {
+      CarriesOut Faulty told old before id command reply after StandsFor Sound SoundNow past since
+  carried_same stands crash answer says step fault lack begins = record {
     new = old;
     stands = stands;
     step = λ trust known. record {
@@ -203,15 +236,16 @@ module _ {Faulty : ℕ → ℕ → Type 0} {told : Option (List World)} {old : R
       lack = lack;
       writers = λ other. begins_none (begins_writer command answer) id other (given before after) (old.writers other) begins;
     };
+    crash = crash;
   }
 
   -- a command that changes its block's cell
   pub carried : (cell : Cell) (numbers : ℕ → Numbers) → StandsFor (record { cells = with_cell old.cells id cell; writers = numbers }) →
-      (answer : Answer) → ((trust : Trust) → IsKnown trust told → Says trust answer reply) → Step unlimited (old.cells id) command answer cell →
-      (answer ≡ failed → FailsBy Faulty before after (old.writers id) command cell) → (answer ≡ memory → cell ≡ waiting → before.next_number < after.next_number) →
+      CrashSafe old.cells (with_cell old.cells id cell) Sound SoundNow past since → (answer : Answer) → ((trust : Trust) → IsKnown trust told → Says trust answer reply) → Step unlimited (old.cells id) command answer cell →
+      (answer ≡ failed → FailsBy Faulty before after (old.writers id) (old.cells id) command cell) → (answer ≡ memory → cell ≡ waiting → before.next_number < after.next_number) →
       ((other : ℕ) → numbers other ≡ (if begins_writer command answer && other == id then given before after else old.writers other)) →
-      CarriesOut Faulty told old before id command reply after StandsFor
-  carried cell numbers stands answer says step fault lack begins = record {
+      CarriesOut Faulty told old before id command reply after StandsFor Sound SoundNow past since
+  carried cell numbers stands crash answer says step fault lack begins = record {
     new = record { cells = with_cell old.cells id cell; writers = numbers };
     stands = stands;
     step = λ trust known. record {
@@ -221,17 +255,18 @@ module _ {Faulty : ℕ → ℕ → Type 0} {told : Option (List World)} {old : R
         own = subst (Step unlimited (old.cells id) command answer) (sym (with_cell-here old.cells id cell)) step;
         others = λ other apart. with_cell-other old.cells id cell other apart;
       };
-      fault = λ is. subst (FailsBy Faulty before after (old.writers id) command) (sym (with_cell-here old.cells id cell)) (fault is);
+      fault = λ is. subst (FailsBy Faulty before after (old.writers id) (old.cells id) command) (sym (with_cell-here old.cells id cell)) (fault is);
       lack = λ is waits. lack is (sym (with_cell-here old.cells id cell) ∙ waits);
       writers = begins;
     };
+    crash = crash;
   }
 
   -- a command that begins no writer
   pub carried_on : (cell : Cell) → StandsFor (record { cells = with_cell old.cells id cell; writers = old.writers }) →
-      (answer : Answer) → ((trust : Trust) → IsKnown trust told → Says trust answer reply) → Step unlimited (old.cells id) command answer cell →
-      (answer ≡ failed → FailsBy Faulty before after (old.writers id) command cell) → (answer ≡ memory → cell ≡ waiting → before.next_number < after.next_number) →
-      begins_writer command answer ≡ false → CarriesOut Faulty told old before id command reply after StandsFor
-  carried_on cell stands answer says step fault lack begins =
-      carried cell old.writers stands answer says step fault lack
+      CrashSafe old.cells (with_cell old.cells id cell) Sound SoundNow past since → (answer : Answer) → ((trust : Trust) → IsKnown trust told → Says trust answer reply) → Step unlimited (old.cells id) command answer cell →
+      (answer ≡ failed → FailsBy Faulty before after (old.writers id) (old.cells id) command cell) → (answer ≡ memory → cell ≡ waiting → before.next_number < after.next_number) →
+      begins_writer command answer ≡ false → CarriesOut Faulty told old before id command reply after StandsFor Sound SoundNow past since
+  carried_on cell stands crash answer says step fault lack begins =
+      carried cell old.writers stands crash answer says step fault lack
       (λ other. begins_none (begins_writer command answer) id other (given before after) (old.writers other) begins)

@@ -13,18 +13,22 @@ use Rattle.dn_play.specs.declared.ending.Ending.TheVariants.{Complete, Usage, So
 use Rattle.dn_play.specs.State.{RunState, Mark, Turn, turn_lines, turn_replies, last_state, last_mark}
 use Rattle.dn_play.specs.Commands.{Trust}
 use Rattle.dn_play.specs.Lines.{Follows}
+use Rattle.dn_play.specs.Images.{LinesCrashSafe}
+use Rattle.disk_model.specs.Files.{Files}
+use Rattle.map_model.specs.Cells.{Cells}
 use Rattle.dn_play.specs.Standing.{IsKnown}
 use Rattle.dn_play.specs.Script.{Script, script_after, prepend, printed_column}
 use Rattle.dn_play.specs.Session.{Reads, Shows, Writes, WritesReplies, text_of, status_of, last_line}
 
 -- the line's command, if it has one, was carried out, and its reply written
 pub record Answered (Faulty : ℕ → ℕ → Type 0) (told : Option (List World)) (state : RunState) (before after : Mark) (taken taken' : Option (List ℕ)) (text : List ℕ)
-    (StandsFor : RunState → Type 0) : Type 0 where
+    (StandsFor : RunState → Type 0) (Sound SoundNow : Cells → Type 0) (past since : ℕ → Files → Type 0) : Type 0 where
   pub turns : List Turn
   pub says : (number : ℕ) (rest : Script) → script_after number (line_of text) rest ≡ prepend (turn_lines turns) rest
   pub follows : (trust : Trust) → IsKnown trust told → Follows trust Faulty state before turns
   pub stands : StandsFor (last_state state turns)
   pub at_mark : last_mark before turns ≡ after
+  pub crash : LinesCrashSafe before state turns Sound SoundNow past since
   pub written : Appends taken taken' (text_of (turn_replies turns))
 
 -- these are first commands of the line and those behind it
@@ -45,12 +49,14 @@ SaysUpTo number text commands (Later line) = (commands ≡ []) × (line ≡ numb
 
 -- the line was not answered, or not wholly
 pub record Unanswered (Faulty : ℕ → ℕ → Type 0) (told : Option (List World)) (state : RunState) (before after : Mark) (taken taken' : Option (List ℕ)) (number : ℕ) (text : List ℕ)
-    (ending : Ending) : Type 0 where
+    (ending : Ending) (StandsFor : RunState → Type 0) (Sound SoundNow : Cells → Type 0) (past since : ℕ → Files → Type 0) : Type 0 where
   pub turns : List Turn
   pub shown : List Reply
   pub says : SaysUpTo number text (turn_lines turns) ending
   pub follows : (trust : Trust) → IsKnown trust told → Follows trust Faulty state before turns
+  pub stands : StandsFor (last_state state turns)
   pub at_mark : last_mark before turns ≡ after
+  pub crash : LinesCrashSafe before state turns Sound SoundNow past since
   pub shows : Shows (turn_replies turns) ending shown
   pub written : WritesReplies ending taken taken' (text_of shown)
 
@@ -61,11 +67,14 @@ ending_at LineLimit line = Limit line
 ending_at Memory line = NoMemory
 
 -- The lines of a session up to its ending: they follow one another, their replies are written, and they are those of the input.
-pub record Played (Faulty : ℕ → ℕ → Type 0) (told : Option (List World)) (state : RunState) (before after : Mark) (input taken taken' : Option (List ℕ)) (ending : Ending) : Type 0 where
+pub record Played (Faulty : ℕ → ℕ → Type 0) (told : Option (List World)) (state : RunState) (before after : Mark) (input taken taken' : Option (List ℕ)) (ending : Ending)
+    (StandsFor : RunState → Type 0) (Sound SoundNow : Cells → Type 0) (past since : ℕ → Files → Type 0) : Type 0 where
   pub turns : List Turn
   pub shown : List Reply
   pub follows : (trust : Trust) → IsKnown trust told → Follows trust Faulty state before turns
+  pub stands : StandsFor (last_state state turns)
   pub at_mark : last_mark before turns ≡ after
+  pub crash : LinesCrashSafe before state turns Sound SoundNow past since
   pub read : IfSome input (λ bytes. Reads bytes (turn_lines turns) ending)
   pub shows : Shows (turn_replies turns) ending shown
   pub written : WritesReplies ending taken taken' (text_of shown)

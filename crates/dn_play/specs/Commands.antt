@@ -4,7 +4,7 @@ use Rattle.disk_model.specs.Causes.{Rose}
 use Rattle.script_lang.specs.declared.reply.Reply.{Reply}
 use Rattle.script_lang.specs.declared.reply.Reply.TheVariants.{Done, Data, Exists, NoBlock, Writing, Waiting, Unsure, OldStamp, Full, TooLong, Failed, Memory, Over, NoWriter, Worn, Short}
 use Rattle.map_model.specs.Cells.{Replica, Cell, waiting, unsure}
-use Rattle.map_model.specs.Steps.{Command, start_write, finish, read, CellsStep}
+use Rattle.map_model.specs.Steps.{Command, start_write, finish, write, read, delete, half_deleted, CellsStep}
 use Rattle.map_model.specs.Steps.{Reply as Answer, done, content, exists, no_block, is_writing, is_waiting, is_unsure, old_stamp, full, too_long, failed, memory, over, no_writer, worn}
 use Rattle.pool_state.specs.Answers.{unlimited}
 use Rattle.dn_play.specs.State.{Numbers, RunState, Mark}
@@ -43,15 +43,18 @@ Says trust worn reply = reply ≡ Worn
 abbrev pub DisksFailed : Mark → Mark → Type 0
 DisksFailed before after = Rose before.faults after.faults
 
--- What failed where a command answers `failed`, by the cell that it leaves. `Faulty first last` says that some draft or
--- reader failed whose number is one of these; the writer's numbers are those that the command gave which began it.
--- A push makes no device call, and so never fails. (Later commands: one more case each.)
-abbrev pub FailsBy : (Faulty : ℕ → ℕ → Type 0) (before after : Mark) (writer : Numbers) → Command → Cell → Type 0
-FailsBy Faulty before after writer (start_write stamp need) new = DisksFailed before after × (new ≡ waiting)
-FailsBy Faulty before after writer finish (unsure x y cut) = DisksFailed before after
-FailsBy Faulty before after writer finish new = Faulty writer.first writer.last
-FailsBy Faulty before after writer read new = DisksFailed before after ⊎ Faulty before.next_number after.next_number
-FailsBy Faulty before after writer command new = ⊥
+-- What failed where a command answers `failed`, by the cell that it found and the one that it leaves. `Faulty first last` says
+-- that some draft or reader failed whose number is one of these; the writer's numbers are those that the command gave which
+-- began it. A push makes no device call, and so never fails. (Later commands: one more case each.)
+abbrev pub FailsBy : (Faulty : ℕ → ℕ → Type 0) (before after : Mark) (writer : Numbers) → Cell → Command → Cell → Type 0
+FailsBy Faulty before after writer old (start_write stamp need) new = DisksFailed before after × (new ≡ waiting)
+FailsBy Faulty before after writer old finish (unsure x y cut) = DisksFailed before after
+FailsBy Faulty before after writer old finish new = Faulty writer.first writer.last
+FailsBy Faulty before after writer old (write stamp bytes) (unsure x y cut) = DisksFailed before after
+FailsBy Faulty before after writer old (write stamp bytes) new = (DisksFailed before after ⊎ Faulty before.next_number after.next_number) × (new ≡ waiting)
+FailsBy Faulty before after writer old read new = DisksFailed before after ⊎ Faulty before.next_number after.next_number
+FailsBy Faulty before after writer old delete new = DisksFailed before after × (new ≡ half_deleted old)
+FailsBy Faulty before after writer old command new = ⊥
 
 -- whether a command that is answered so begins a writer that stays open
 abbrev pub begins_writer : Command → Answer → Bool
@@ -68,6 +71,6 @@ pub record CommandStep (trust : Trust) (Faulty : ℕ → ℕ → Type 0) (old : 
   pub answer : Answer
   pub says : Says trust answer reply
   pub cells : CellsStep old.cells (record { id = id; room = unlimited; command = command; reply = answer }) new.cells
-  pub fault : answer ≡ failed → FailsBy Faulty before after (old.writers id) command (new.cells id)
+  pub fault : answer ≡ failed → FailsBy Faulty before after (old.writers id) (old.cells id) command (new.cells id)
   pub lack : answer ≡ memory → new.cells id ≡ waiting → before.next_number < after.next_number
   pub writers : (other : ℕ) → new.writers other ≡ (if begins_writer command answer && other == id then given before after else old.writers other)

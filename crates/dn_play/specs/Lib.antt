@@ -3,6 +3,7 @@ pub mod Commands
 pub mod Lines
 pub mod Script
 pub mod Session
+pub mod Images
 pub mod Standing
 pub mod Replies
 pub mod Answer

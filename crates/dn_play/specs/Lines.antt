@@ -1,9 +1,9 @@
 -- One line of a script, and the lines of a run.
 use Rattle.std.specs.Prelude.{ℕ, List, [], ◌∷◌, ⊤}
 use Rattle.script_lang.specs.declared.Line.{Line}
-use Rattle.script_lang.specs.declared.Line.TheVariants.{Blank, Open, Push, Finish, Read}
+use Rattle.script_lang.specs.declared.Line.TheVariants.{Blank, Open, Push, Finish, Write, Read, Delete}
 use Rattle.script_lang.specs.declared.reply.Reply.{Reply}
-use Rattle.map_model.specs.Steps.{start_write, push, finish, read}
+use Rattle.map_model.specs.Steps.{start_write, push, finish, write, read, delete}
 use Rattle.dn_play.specs.State.{RunState, Mark, IsLater, Turn}
 use Rattle.dn_play.specs.Commands.{Trust, CommandStep}
 
@@ -12,7 +12,9 @@ abbrev pub Does : Trust → (ℕ → ℕ → Type 0) → RunState → Mark → L
 Does trust Faulty old before (Open id stamp need) reply new after = CommandStep trust Faulty old before id (start_write stamp need) reply new after
 Does trust Faulty old before (Push id piece) reply new after = CommandStep trust Faulty old before id (push piece) reply new after
 Does trust Faulty old before (Finish id) reply new after = CommandStep trust Faulty old before id finish reply new after
+Does trust Faulty old before (Write id stamp bytes) reply new after = CommandStep trust Faulty old before id (write stamp bytes) reply new after
 Does trust Faulty old before (Read id) reply new after = CommandStep trust Faulty old before id read reply new after
+Does trust Faulty old before (Delete id) reply new after = CommandStep trust Faulty old before id delete reply new after
 Does trust Faulty old before Blank reply new after = ⊥
 
 -- one line: from this state and these counts it gives this reply and goes on to that state and those counts

@@ -3,15 +3,19 @@ use Rattle.std.specs.Prelude.{ℕ, ◌≡◌, ◌⊎◌, List, [], ◌∷◌, Op
 use Rattle.disk_model.specs.Files.{Files}
 use Rattle.disk_model.specs.Worlds.{World}
 use Rattle.disk_model.specs.Causes.{Rose}
-use Rattle.map_model.specs.Cells.{absent}
-use Rattle.pool_open.specs.ReplicaNames.{HasReplicaName}
-use Rattle.pool_open.specs.Outcome.{HoldsImage}
+use Rattle.volume_layout.specs.Paths.{IsBlockId}
+use Rattle.map_model.specs.Copies.{block_files, OneWhole}
+use Rattle.map_model.specs.Allows.{AllowsImage}
+use Rattle.map_model.specs.Openings.{MakesCells, ReadsAlike}
+use Rattle.map_model.specs.Sound.{IsSound}
+use Rattle.pool_open.specs.Outcome.{HoldsImage, HasTwoMetas, IsOpened}
 use Rattle.script_lang.specs.declared.reply.Reply.{Reply}
 use Rattle.dn_play.specs.declared.ending.Ending.{Ending}
 use Rattle.dn_play.specs.declared.ending.Ending.TheVariants.{NoMemory, OpenFault, Later}
-use Rattle.dn_play.specs.State.{RunState, Mark, IsLater, Turn, turn_lines, turn_replies, last_mark}
+use Rattle.dn_play.specs.State.{RunState, Mark, IsLater, Turn, turn_lines, turn_replies, last_state, last_mark}
 use Rattle.dn_play.specs.Commands.{Trust}
 use Rattle.dn_play.specs.Lines.{Follows}
+use Rattle.dn_play.specs.Images.{AllowedSince, AllowedSinceEach}
 use Rattle.dn_play.specs.Standing.{IsKnown}
 use Rattle.dn_play.specs.Session.{Reads, Shows, Ends, WritesReplies, text_of}
 use Rattle.dn_play.specs.Answer.{IsOfLines}
@@ -23,49 +27,59 @@ pub record Course : Type 0 where
   pub told : Option (List World)
   pub input : Option (List ℕ)
 
--- the state of a run whose blocks are all absent
-abbrev pub first_state : RunState
-first_state = record { cells = λ id. absent; writers = λ id. record { first = 0; last = 0 } }
-
 -- the endings of a run whose opening isn't done
 abbrev pub IsBeforeOpened : Ending → Type 0
 IsBeforeOpened ending = (ending ≡ NoMemory) ⊎ ((ending ≡ OpenFault) ⊎ (ending ≡ Later 0))
 
--- The opening wasn't done, and nothing was carried out: it failed, or memory was wanting, or the pool holds a file of a block.
-pub record StopsUnopened (course : Course) (ending : Ending) (shown : List Reply) : Type 0 where
+-- The opening wasn't done, and nothing was carried out: it failed, or memory was wanting, or two metas of a block stand. Every
+-- image that a crash could leave since the entry reads as the one at the beginning.
+pub record StopsUnopened (since : ℕ → Files → Type 0) (course : Course) (ending : Ending) (shown : List Reply) : Type 0 where
   pub is_before : IsBeforeOpened ending
   pub nothing : shown ≡ []
   pub counts : IsLater course.entry course.exit
   pub open_fault : ending ≡ OpenFault → Rose course.entry.faults course.exit.faults
-  pub later : ending ≡ Later 0 → (image : Files) → HoldsImage course.told image → HasReplicaName image
+  pub later : ending ≡ Later 0 → (start : Files) → HoldsImage course.told start → HasTwoMetas start
+  pub images : (start : Files) → HoldsImage course.told start → (image : Files) → since course.entry.moment image → ReadsAlike (block_files start) image
 
--- The opening was done, of a pool without a file of a block. Then lines of the script were carried out, in order, whatever is known of the disks.
-pub record RunsLines (Faulty : ℕ → ℕ → Type 0) (course : Course) (ending : Ending) (shown : List Reply) : Type 0 where
+-- The opening was done. Then lines of the script were carried out, in order, whatever is known of the disks. Where the disks
+-- tell one image at the entry, the first cells are what an opening makes of it. The cells allow what a crash can leave: those
+-- after the last line what it can leave at the exit, and those after a line, or a later one, what it could leave since it. Of
+-- each block that has a copy at the exit, one whole copy stands alone. Where the image at the entry is sound, so is each that a
+-- crash could leave since the opening's end.
+pub record RunsLines (Faulty : ℕ → ℕ → Type 0) (since : ℕ → Files → Type 0) (can_leave : Files → Type 0) (course : Course) (ending : Ending) (shown : List Reply) : Type 0 where
+  pub first : RunState
   pub mark : Mark
   pub turns : List Turn
-  pub none : (image : Files) → HoldsImage course.told image → HasReplicaName image → ⊥
+  pub opened : (id : ℕ) → IsBlockId id → IsOpened (first.cells id)
+  pub one_meta : (start : Files) → HoldsImage course.told start → HasTwoMetas start → ⊥
+  pub from_start : (start : Files) → HoldsImage course.told start → MakesCells (block_files start) first.cells
   pub counts : IsLater course.entry mark
-  pub follows : (trust : Trust) → IsKnown trust course.told → Follows trust Faulty first_state mark turns
+  pub follows : (trust : Trust) → IsKnown trust course.told → Follows trust Faulty first mark turns
   pub at_exit : last_mark mark turns ≡ course.exit
   pub read : IfSome course.input (λ input. Reads input (turn_lines turns) ending)
   pub shows : Shows (turn_replies turns) ending shown
   pub of_lines : IsOfLines ending
+  pub images : (start : Files) → HoldsImage course.told start → AllowedSince since course.entry.moment first turns
+  pub images_each : AllowedSinceEach since mark first turns
+  pub images_at_exit : (image : Files) → can_leave image → AllowsImage (last_state first turns).cells image
+  pub whole_at_exit : (image : Files) → can_leave image → OneWhole image
+  pub sound : (start : Files) → HoldsImage course.told start → IsSound start → (image : Files) → since mark.moment image → IsSound image
 
 -- a run stops before the opening is done, or runs the lines
-abbrev pub Goes : (Faulty : ℕ → ℕ → Type 0) → Course → Ending → List Reply → Type 0
-Goes Faulty course ending shown = StopsUnopened course ending shown ⊎ RunsLines Faulty course ending shown
+abbrev pub Goes : (Faulty : ℕ → ℕ → Type 0) (since : ℕ → Files → Type 0) (can_leave : Files → Type 0) → Course → Ending → List Reply → Type 0
+Goes Faulty since can_leave course ending shown = StopsUnopened since course ending shown ⊎ RunsLines Faulty since can_leave course ending shown
 
 -- a run up to its last line
-pub record RunsPool (Faulty : ℕ → ℕ → Type 0) (course : Course) (taken taken' : Option (List ℕ)) (ending : Ending) : Type 0 where
+pub record RunsPool (Faulty : ℕ → ℕ → Type 0) (since : ℕ → Files → Type 0) (can_leave : Files → Type 0) (course : Course) (taken taken' : Option (List ℕ)) (ending : Ending) : Type 0 where
   pub shown : List Reply
-  pub goes : Goes Faulty course ending shown
+  pub goes : Goes Faulty since can_leave course ending shown
   pub written : WritesReplies ending taken taken' (text_of shown)
 
 -- A run: its replies are written, and the last line of its ending, and it has the ending's status.
-pub record Runs (Faulty : ℕ → ℕ → Type 0) (course : Course) (taken taken' : Option (List ℕ)) (status : ℕ) : Type 0 where
+pub record Runs (Faulty : ℕ → ℕ → Type 0) (since : ℕ → Files → Type 0) (can_leave : Files → Type 0) (course : Course) (taken taken' : Option (List ℕ)) (status : ℕ) : Type 0 where
   pub ending : Ending
   pub shown : List Reply
-  pub goes : Goes Faulty course ending shown
+  pub goes : Goes Faulty since can_leave course ending shown
   pub ends : Ends ending taken taken' (text_of shown) status
 
 -- a list of one, before and after, and what holds of the two

@@ -1,23 +1,26 @@
 -- When a session stands for the state of a run.
-use Rattle.std.specs.Prelude.{ℕ, ◌≡◌, ◌-◌, List, Option, None, MatchOption, option_map, ⊤, IsSome, nat_eq, ◌⊎◌}
+use Rattle.std.specs.Prelude.{ℕ, ◌≡◌, ◌-◌, true, false, List, Option, None, MatchOption, option_map, ⊤, IsSome, nat_eq, ◌⊎◌}
 use Rattle.disk_model.specs.Worlds.{World, DraftPlace}
 use Rattle.disk_model.specs.Causes.{FaultyOne}
 use Rattle.indexmap.specs.IndexMap.{get}
 use Rattle.volume_layout.specs.Paths.{IsBlockId}
-use Rattle.map_model.specs.Cells.{Cell, absent, final, growing, unsure, waiting}
+use Rattle.disk_model.specs.Files.{Files}
+use Rattle.map_model.specs.Stands.{Leftover}
+use Rattle.map_model.specs.Cells.{Cell, Cells, absent, final, growing, unsure, waiting}
 use Rattle.map_model.specs.Steps.{Command}
 use Rattle.pool_state.specs.declared.entry.Entry.{Entry}
 use Rattle.pool_state.specs.Answers.{GivenBetween}
-use Rattle.pool_state.specs.Books.{entry_at}
-use Rattle.pool_state.specs.Stands.{PoolStands}
+use Rattle.pool_state.specs.Books.{entry_at, found_at}
+use Rattle.pool_state.specs.Stands.{PoolStands, Stands}
 use Rattle.pool_state.specs.Writers.{Writer, WriterStands, writer_of}
 use Rattle.script_lang.specs.declared.reply.Reply.{Reply}
 use Rattle.script_lang.specs.declared.Line.{Line}
-use Rattle.script_lang.specs.declared.Line.TheVariants.{Blank, Open, Push, Finish, Read}
+use Rattle.script_lang.specs.declared.Line.TheVariants.{Blank, Open, Push, Finish, Write, Read, Delete}
 use Rattle.dn_play.specs.declared.session.Session.{Session}
 use Rattle.dn_play.specs.State.{Numbers, RunState, Mark}
 use Rattle.dn_play.specs.Commands.{Trust, any_disks, telling_disks, CommandStep}
 use Rattle.dn_play.specs.Lines.{Does}
+use Rattle.dn_play.specs.Images.{CrashSafe}
 
 -- the cell has no writer
 abbrev pub NotGrowing : Cell → Type 0
@@ -37,8 +40,8 @@ pub record OpenWriter (told : Option (List World)) (entries : ℕ → Option Ent
   pub meta_given : GivenBetween numbers.first numbers.last stands.meta_number
 
 -- disks, entries and open writers stand for the state of a run
-pub record Standing (told : Option (List World)) (volumes : ℕ) (entries : ℕ → Option Entry) (writers : ℕ → Option Writer) (state : RunState) : Type 0 where
-  pub pool : PoolStands told volumes entries state.cells
+pub record Standing (told : Option (List World)) (volumes : ℕ) (entries : ℕ → Option Entry) (found : ℕ → List Leftover) (writers : ℕ → Option Writer) (state : RunState) : Type 0 where
+  pub pool : PoolStands told volumes entries found false state.cells
   pub writer : (id : ℕ) → IsBlockId id → MatchOption (writers id) (NotGrowing (state.cells id)) (OpenWriter told entries id (state.cells id) (state.writers id))
 
 -- what must be known of the disks' content
@@ -60,17 +63,23 @@ module _ {D S T R : Type 0} (worlds : D → Option (List World)) (volume_count :
   abbrev pub open_writer : Session D S T R → ℕ → Option Writer
   open_writer session id = option_map (writer_of place bytes) (get nat_eq session.writers.by_block id)
 
+  -- the pool of a session stands for cells, with meta files that match
+  abbrev pub SoundFor : Session D S T R → Cells → Type 0
+  SoundFor session cells = Stands worlds volume_count session.pool true cells
+
   -- a session stands for the state of a run
   abbrev pub SessionStands : Session D S T R → RunState → Type 0
   SessionStands session state =
-      Standing (worlds session.pool.disks) (volume_count session.pool.disks) (entry_at session.pool.map) (open_writer session) state
+      Standing (worlds session.pool.disks) (volume_count session.pool.disks) (entry_at session.pool.map) (found_at session.pool.map) (open_writer session) state
 
--- A command was carried out: the session stands for another state, to which the command's step leads, whatever is known of the disks.
+-- A command was carried out: the session stands for another state, to which the command's step leads, whatever is known of the
+-- disks; and whatever a crash leaves meanwhile, the cells before or after allow.
 pub record CarriesOut (Faulty : ℕ → ℕ → Type 0) (told : Option (List World)) (old : RunState) (before : Mark) (id : ℕ) (command : Command) (reply : Reply) (after : Mark)
-    (StandsFor : RunState → Type 0) : Type 0 where
+    (StandsFor : RunState → Type 0) (Sound SoundNow : Cells → Type 0) (past since : ℕ → Files → Type 0) : Type 0 where
   pub new : RunState
   pub stands : StandsFor new
   pub step : (trust : Trust) → IsKnown trust told → CommandStep trust Faulty old before id command reply new after
+  pub crash : CrashSafe old.cells new.cells Sound SoundNow past since
 
 -- the line asks for something
 abbrev pub IsCommand : Line → Type 0
@@ -78,11 +87,14 @@ IsCommand Blank = ⊥
 IsCommand (Open id stamp need) = ⊤
 IsCommand (Push id piece) = ⊤
 IsCommand (Finish id) = ⊤
+IsCommand (Write id stamp bytes) = ⊤
 IsCommand (Read id) = ⊤
+IsCommand (Delete id) = ⊤
 
 -- A line was carried out: the session stands for another state, to which the line leads, whatever is known of the disks.
 pub record LineCarried (Faulty : ℕ → ℕ → Type 0) (told : Option (List World)) (old : RunState) (before : Mark) (line : Line) (reply : Reply) (after : Mark)
-    (StandsFor : RunState → Type 0) : Type 0 where
+    (StandsFor : RunState → Type 0) (Sound SoundNow : Cells → Type 0) (past since : ℕ → Files → Type 0) : Type 0 where
   pub new : RunState
   pub stands : StandsFor new
   pub does : (trust : Trust) → IsKnown trust told → Does trust Faulty old before line reply new after
+  pub crash : CrashSafe old.cells new.cells Sound SoundNow past since

@@ -3,7 +3,7 @@ ghost use Rattle.std.specs.Prelude.{◌≡◌, ◌≤◌, OnOk, IfErr, IsErrOf};
 ghost use Rattle.disk_model.specs.Causes.{Rose};
 ghost use Rattle.pool_state.specs.Stands.{GoesOn};
 ghost use Rattle.dn_play.specs.State.{RunState};
-ghost use Rattle.dn_play.specs.Standing.{SessionStands, faulty_of, mark_of};
+ghost use Rattle.dn_play.specs.Standing.{SessionStands, SoundFor, faulty_of, mark_of};
 ghost use Rattle.dn_play.specs.Answer.{Answered, Unanswered, IsOfLines};
 
 use crate::ending::Ending;
@@ -30,11 +30,15 @@ pub fn answer<D: PoolDisks, K: Sink>(
     ensures ok { (state : RunState) → SessionStands D.worlds D.volume_count D.Draft.place D.Draft.bytes session.old state →
         OnOk result (Answered (faulty_of D.Draft.place D.Draft.faults D.Reader.number D.Reader.faults) (D.worlds session.old.pool.disks)
         state (mark_of D.faults D.next_number D.moment session.old.pool.disks) (mark_of D.faults D.next_number D.moment session.new.pool.disks)
-        (K.taken sink.old) (K.taken sink.new) text.now (SessionStands D.worlds D.volume_count D.Draft.place D.Draft.bytes session.new)) }
+        (K.taken sink.old) (K.taken sink.new) text.now (SessionStands D.worlds D.volume_count D.Draft.place D.Draft.bytes session.new)
+        (SoundFor D.worlds D.volume_count D.Draft.place D.Draft.bytes session.old) (SoundFor D.worlds D.volume_count D.Draft.place D.Draft.bytes session.new)
+        (D.left_since session.old.pool.disks) (D.left_since session.new.pool.disks)) }
     ensures err { (state : RunState) → SessionStands D.worlds D.volume_count D.Draft.place D.Draft.bytes session.old state →
         IfErr result (λ ending. Unanswered (faulty_of D.Draft.place D.Draft.faults D.Reader.number D.Reader.faults) (D.worlds session.old.pool.disks)
         state (mark_of D.faults D.next_number D.moment session.old.pool.disks) (mark_of D.faults D.next_number D.moment session.new.pool.disks)
-        (K.taken sink.old) (K.taken sink.new) number text.now ending) }
+        (K.taken sink.old) (K.taken sink.new) number text.now ending (SessionStands D.worlds D.volume_count D.Draft.place D.Draft.bytes session.new)
+        (SoundFor D.worlds D.volume_count D.Draft.place D.Draft.bytes session.old) (SoundFor D.worlds D.volume_count D.Draft.place D.Draft.bytes session.new)
+        (D.left_since session.old.pool.disks) (D.left_since session.new.pool.disks)) }
     ensures of_lines { IfErr result IsOfLines }
     ensures goes_on { GoesOn D.worlds D.faults D.next_number D.moment D.volume_count session.old.pool.disks session.new.pool.disks }
     ensures sink { IsErrOf result Ending.SinkFault → Rose (K.faults sink.old) (K.faults sink.new) }

@@ -2,15 +2,15 @@
 ghost use Rattle.std.specs.Prelude.{◌≡◌, ◌≢◌, ◌≤◌, ◌<◌, ℕ, List, IsOk, None, Some, nat_eq, ◌==◌, if◌then◌else◌};
 ghost use Rattle.indexmap.specs.IndexMap.{get, spare};
 ghost use Rattle.volume_layout.specs.Paths.{IsBlockId};
-ghost use Rattle.map_model.specs.Steps.{start_write, push, finish, read};
+ghost use Rattle.map_model.specs.Steps.{start_write, push, finish, read, delete};
 ghost use Rattle.pool_state.specs.Stands.{GoesOn};
 ghost use Rattle.dn_play.specs.State.{RunState};
-ghost use Rattle.dn_play.specs.Replies.{refusal_reply};
-ghost use Rattle.dn_play.specs.Standing.{SessionStands, CarriesOut, LineCarried, IsCommand, faulty_of, mark_of};
+ghost use Rattle.dn_play.specs.Standing.{SessionStands, SoundFor, CarriesOut, LineCarried, IsCommand, faulty_of, mark_of};
 
+use crate::refusals::{delete_refusal_of, refusal_of};
 use crate::session::Session;
 use disk_model::PoolDisks;
-use pool_state::{ReadEnd, SealFault, StartFault, read_all};
+use pool_state::{ReadEnd, SealFault, read_all};
 use script_lang::Line;
 use script_lang::bytes::Bytes;
 use script_lang::reply::Reply;
@@ -24,7 +24,9 @@ impl<D: PoolDisks> Session<D> {
         ensures step { (state : RunState) → SessionStands D.worlds D.volume_count D.Draft.place D.Draft.bytes self.old state →
             CarriesOut (faulty_of D.Draft.place D.Draft.faults D.Reader.number D.Reader.faults) (D.worlds self.old.pool.disks)
             state (mark_of D.faults D.next_number D.moment self.old.pool.disks) id (start_write stamp need) result (mark_of D.faults D.next_number D.moment self.new.pool.disks)
-            (SessionStands D.worlds D.volume_count D.Draft.place D.Draft.bytes self.new) }
+            (SessionStands D.worlds D.volume_count D.Draft.place D.Draft.bytes self.new)
+            (SoundFor D.worlds D.volume_count D.Draft.place D.Draft.bytes self.old) (SoundFor D.worlds D.volume_count D.Draft.place D.Draft.bytes self.new)
+            (D.left_since self.old.pool.disks) (D.left_since self.new.pool.disks) }
         ensures goes_on { GoesOn D.worlds D.faults D.next_number D.moment D.volume_count self.old.pool.disks self.new.pool.disks }
     {
         if let Some(fault) = self.pool.write_refusal(id) {
@@ -48,7 +50,9 @@ impl<D: PoolDisks> Session<D> {
         ensures step { (state : RunState) → SessionStands D.worlds D.volume_count D.Draft.place D.Draft.bytes self.old state →
             CarriesOut (faulty_of D.Draft.place D.Draft.faults D.Reader.number D.Reader.faults) (D.worlds self.old.pool.disks)
             state (mark_of D.faults D.next_number D.moment self.old.pool.disks) id (push piece.now) result (mark_of D.faults D.next_number D.moment self.new.pool.disks)
-            (SessionStands D.worlds D.volume_count D.Draft.place D.Draft.bytes self.new) }
+            (SessionStands D.worlds D.volume_count D.Draft.place D.Draft.bytes self.new)
+            (SoundFor D.worlds D.volume_count D.Draft.place D.Draft.bytes self.old) (SoundFor D.worlds D.volume_count D.Draft.place D.Draft.bytes self.new)
+            (D.left_since self.old.pool.disks) (D.left_since self.new.pool.disks) }
         ensures goes_on { GoesOn D.worlds D.faults D.next_number D.moment D.volume_count self.old.pool.disks self.new.pool.disks }
     {
         let Some(left) = self.writers.room_left(id) else {
@@ -79,7 +83,9 @@ impl<D: PoolDisks> Session<D> {
         ensures step { (state : RunState) → SessionStands D.worlds D.volume_count D.Draft.place D.Draft.bytes self.old state →
             CarriesOut (faulty_of D.Draft.place D.Draft.faults D.Reader.number D.Reader.faults) (D.worlds self.old.pool.disks)
             state (mark_of D.faults D.next_number D.moment self.old.pool.disks) id finish result (mark_of D.faults D.next_number D.moment self.new.pool.disks)
-            (SessionStands D.worlds D.volume_count D.Draft.place D.Draft.bytes self.new) }
+            (SessionStands D.worlds D.volume_count D.Draft.place D.Draft.bytes self.new)
+            (SoundFor D.worlds D.volume_count D.Draft.place D.Draft.bytes self.old) (SoundFor D.worlds D.volume_count D.Draft.place D.Draft.bytes self.new)
+            (D.left_since self.old.pool.disks) (D.left_since self.new.pool.disks) }
         ensures goes_on { GoesOn D.worlds D.faults D.next_number D.moment D.volume_count self.old.pool.disks self.new.pool.disks }
     {
         let writer = match self.writers.take(id) {
@@ -108,7 +114,9 @@ impl<D: PoolDisks> Session<D> {
         ensures step { (state : RunState) → SessionStands D.worlds D.volume_count D.Draft.place D.Draft.bytes self.old state →
             CarriesOut (faulty_of D.Draft.place D.Draft.faults D.Reader.number D.Reader.faults) (D.worlds self.old.pool.disks)
             state (mark_of D.faults D.next_number D.moment self.old.pool.disks) id read result (mark_of D.faults D.next_number D.moment self.new.pool.disks)
-            (SessionStands D.worlds D.volume_count D.Draft.place D.Draft.bytes self.new) }
+            (SessionStands D.worlds D.volume_count D.Draft.place D.Draft.bytes self.new)
+            (SoundFor D.worlds D.volume_count D.Draft.place D.Draft.bytes self.old) (SoundFor D.worlds D.volume_count D.Draft.place D.Draft.bytes self.new)
+            (D.left_since self.old.pool.disks) (D.left_since self.new.pool.disks) }
         ensures goes_on { GoesOn D.worlds D.faults D.next_number D.moment D.volume_count self.old.pool.disks self.new.pool.disks }
     {
         let pair = match self.pool.start_read(alloc, id) {
@@ -127,6 +135,26 @@ impl<D: PoolDisks> Session<D> {
         }
     }
 
+    /// Deletes a block.
+    pub fn delete(&mut self, id: BlockId) -> Reply
+        requires stands { (state : RunState) × SessionStands D.worlds D.volume_count D.Draft.place D.Draft.bytes self.old state }
+        ensures step { (state : RunState) → SessionStands D.worlds D.volume_count D.Draft.place D.Draft.bytes self.old state →
+            CarriesOut (faulty_of D.Draft.place D.Draft.faults D.Reader.number D.Reader.faults) (D.worlds self.old.pool.disks)
+            state (mark_of D.faults D.next_number D.moment self.old.pool.disks) id delete result (mark_of D.faults D.next_number D.moment self.new.pool.disks)
+            (SessionStands D.worlds D.volume_count D.Draft.place D.Draft.bytes self.new)
+            (SoundFor D.worlds D.volume_count D.Draft.place D.Draft.bytes self.old) (SoundFor D.worlds D.volume_count D.Draft.place D.Draft.bytes self.new)
+            (D.left_since self.old.pool.disks) (D.left_since self.new.pool.disks) }
+        ensures goes_on { GoesOn D.worlds D.faults D.next_number D.moment D.volume_count self.old.pool.disks self.new.pool.disks }
+    {
+        if let Some(fault) = self.pool.delete_refusal(id) {
+            return delete_refusal_of(fault);
+        }
+        match self.pool.delete(id) {
+            Ok(()) => Reply::Done,
+            Err(fault) => delete_refusal_of(fault),
+        }
+    }
+
     /// Carries out the command of a line.
     pub fn carry_out(&mut self, alloc: Global, line: Line) -> Reply
         requires command { IsCommand line }
@@ -134,30 +162,19 @@ impl<D: PoolDisks> Session<D> {
         ensures step { (state : RunState) → SessionStands D.worlds D.volume_count D.Draft.place D.Draft.bytes self.old state →
             LineCarried (faulty_of D.Draft.place D.Draft.faults D.Reader.number D.Reader.faults) (D.worlds self.old.pool.disks)
             state (mark_of D.faults D.next_number D.moment self.old.pool.disks) line result (mark_of D.faults D.next_number D.moment self.new.pool.disks)
-            (SessionStands D.worlds D.volume_count D.Draft.place D.Draft.bytes self.new) }
+            (SessionStands D.worlds D.volume_count D.Draft.place D.Draft.bytes self.new)
+            (SoundFor D.worlds D.volume_count D.Draft.place D.Draft.bytes self.old) (SoundFor D.worlds D.volume_count D.Draft.place D.Draft.bytes self.new)
+            (D.left_since self.old.pool.disks) (D.left_since self.new.pool.disks) }
         ensures goes_on { GoesOn D.worlds D.faults D.next_number D.moment D.volume_count self.old.pool.disks self.new.pool.disks }
     {
         match line {
             Line::Open { id, stamp, need } => self.open(alloc, id, stamp, need),
             Line::Push { id, hex } => self.push(id, hex.as_slice()),
             Line::Finish { id } => self.finish(id),
+            Line::Write { id, stamp, hex } => self.write(alloc, id, stamp, hex.as_slice()),
             Line::Read { id } => self.read(alloc, id),
+            Line::Delete { id } => self.delete(id),
             Line::Blank => Reply::Done,
         }
-    }
-}
-
-/// Why a start was refused, as a reply.
-fn refusal_of(fault: StartFault) -> Reply
-    ensures { result ≡ refusal_reply fault }
-{
-    match fault {
-        StartFault::Exists => Reply::Exists,
-        StartFault::None => Reply::NoBlock,
-        StartFault::Writing => Reply::Writing,
-        StartFault::Waiting => Reply::Waiting,
-        StartFault::Unsure => Reply::Unsure,
-        StartFault::Failed => Reply::Failed,
-        StartFault::Memory => Reply::Memory,
     }
 }

@@ -9,7 +9,9 @@ mod lines;
 mod open_writers;
 mod playing;
 mod pool_run;
+mod refusals;
 mod session;
+mod whole_writes;
 mod words;
 mod writers;
 

@@ -4,7 +4,7 @@ ghost use Rattle.std.specs.Io.KnownBytes.{IsAtEnd};
 ghost use Rattle.disk_model.specs.Causes.{Rose};
 ghost use Rattle.pool_state.specs.Stands.{GoesOn};
 ghost use Rattle.dn_play.specs.State.{RunState};
-ghost use Rattle.dn_play.specs.Standing.{SessionStands, faulty_of, mark_of};
+ghost use Rattle.dn_play.specs.Standing.{SessionStands, SoundFor, faulty_of, mark_of};
 ghost use Rattle.dn_play.specs.Answer.{Played, IsOfLines, ending_at};
 
 use crate::answer::answer;
@@ -39,7 +39,9 @@ pub fn play_lines<D: PoolDisks, S: Source, K: Sink>(
     ensures played { (state : RunState) → SessionStands D.worlds D.volume_count D.Draft.place D.Draft.bytes session.old state →
         Played (faulty_of D.Draft.place D.Draft.faults D.Reader.number D.Reader.faults) (D.worlds session.old.pool.disks)
         state (mark_of D.faults D.next_number D.moment session.old.pool.disks) (mark_of D.faults D.next_number D.moment session.new.pool.disks)
-        (S.left source.old) (K.taken sink.old) (K.taken sink.new) result }
+        (S.left source.old) (K.taken sink.old) (K.taken sink.new) result (SessionStands D.worlds D.volume_count D.Draft.place D.Draft.bytes session.new)
+        (SoundFor D.worlds D.volume_count D.Draft.place D.Draft.bytes session.old) (SoundFor D.worlds D.volume_count D.Draft.place D.Draft.bytes session.new)
+        (D.left_since session.old.pool.disks) (D.left_since session.new.pool.disks) }
     ensures goes_on { GoesOn D.worlds D.faults D.next_number D.moment D.volume_count session.old.pool.disks session.new.pool.disks }
     ensures of_lines { IsOfLines result }
     ensures at_end { result ≡ Ending.Complete → IsAtEnd (S.left source.new) }

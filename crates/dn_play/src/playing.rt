@@ -2,7 +2,7 @@
 ghost use Rattle.std.specs.Prelude.{◌≡◌, ◌⊎◌, true, false, All, map, string_bytes, IfSome};
 ghost use Rattle.std.specs.Io.KnownBytes.{IsAtEnd};
 ghost use Rattle.disk_model.specs.Causes.{Rose};
-ghost use Rattle.disk_model.specs.Told.{InEachWorld};
+ghost use Rattle.disk_model.specs.Told.{InEachWorld, CanLeave};
 ghost use Rattle.map_model.specs.World.{DraftsAside};
 ghost use Rattle.dn_play.specs.Script.{script_of};
 ghost use Rattle.dn_play.specs.Session.{Declines, status_at};
@@ -49,6 +49,7 @@ pub fn play<D: PoolDisks, S: Source, K: Sink>(
     // Otherwise the pool is opened, and the lines of the script are carried out.
     ensures run { words_fit D.volume_count (map string_bytes words.now) disks.items ≡ true → words_are_later (map string_bytes words.now) ≡ false →
         OfOne disks.items result.disks.items (λ before after. Runs (faulty_of D.Draft.place D.Draft.faults D.Reader.number D.Reader.faults)
+        (D.left_since after) (CanLeave (D.worlds after))
         (record {
           entry = mark_of D.faults D.next_number D.moment before;
           exit = mark_of D.faults D.next_number D.moment after;
@@ -59,7 +60,7 @@ pub fn play<D: PoolDisks, S: Source, K: Sink>(
     ensures source_fault { result.status ≡ 2 → Rose (S.faults source.old) (S.faults source.new) }
     ensures sink_fault { result.status ≡ 3 → Rose (K.faults sink.old) (K.faults sink.new) }
     ensures open_fault { result.status ≡ 6 → OfOne disks.items result.disks.items (λ before after. Rose (D.faults before) (D.faults after)) }
-    // Where no count rises, the status is that of the place where the script stops, unless memory is wanting or the pool holds a stored block.
+    // Where no count rises, the status is that of the place where the script stops, unless memory is wanting or two metas of a block stand.
     ensures complete { words_fit D.volume_count (map string_bytes words.now) disks.items ≡ true → words_are_later (map string_bytes words.now) ≡ false → IfSome (S.left source.old) (λ input.
         (result.status ≡ status_at (script_of input).stop) ⊎ (result.status ≡ 4) ⊎ (result.status ≡ 8)
         ⊎ Rose (S.faults source.old) (S.faults source.new) ⊎ Rose (K.faults sink.old) (K.faults sink.new)

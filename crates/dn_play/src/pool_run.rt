@@ -2,7 +2,7 @@
 ghost use Rattle.std.specs.Prelude.{◌≡◌, ◌≤◌};
 ghost use Rattle.std.specs.Io.KnownBytes.{IsAtEnd};
 ghost use Rattle.disk_model.specs.Causes.{Rose};
-ghost use Rattle.disk_model.specs.Told.{InEachWorld};
+ghost use Rattle.disk_model.specs.Told.{InEachWorld, CanLeave};
 ghost use Rattle.map_model.specs.World.{DraftsAside};
 ghost use Rattle.dn_play.specs.Standing.{faulty_of, mark_of};
 ghost use Rattle.dn_play.specs.Play.{RunsPool};
@@ -33,6 +33,7 @@ pub fn play_pool<D: PoolDisks, S: Source, K: Sink>(
     requires aside { InEachWorld (D.worlds disks) DraftsAside }
     requires one_volume { D.volume_count disks ≡ 1 }
     ensures runs { RunsPool (faulty_of D.Draft.place D.Draft.faults D.Reader.number D.Reader.faults)
+        (D.left_since result.disks) (CanLeave (D.worlds result.disks))
         (record {
           entry = mark_of D.faults D.next_number D.moment disks;
           exit = mark_of D.faults D.next_number D.moment result.disks;

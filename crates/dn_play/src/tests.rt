@@ -1,10 +1,11 @@
 //! Scripts over disks, sources and sinks in memory.
-ghost use Rattle.std.specs.Prelude.{◌≤◌, All, IfOk};
+ghost use Rattle.std.specs.Prelude.{◌≡◌, ◌≤◌, All, IfOk, OnOk};
 ghost use Rattle.disk_model.specs.Told.{InEachWorld};
 ghost use Rattle.map_model.specs.World.{DraftsAside};
 
 use super::*;
 use disk_model::{PlainDisks, PlainSink, PlainSource, PoolDisks};
+use mem_disks::{Call, FailRule, MemDisks};
 use std::alloc::{AllocError, Global};
 use std::process::Abort;
 use std::test::Fail;
@@ -66,7 +67,17 @@ fn lines_are_answered_in_any_pieces(rt: HostRuntime) -> Result<(), Fail> {
         ),
         ("read 5\nraed 5\n", 5, "none\nend line 2 1\n"),
         ("\n# a comment\nread 5", 0, "none\n"),
-        ("read 5\ndelete 5\n", 8, "none\nend later 2\n"),
+        ("read 5\nreopen\n", 8, "none\nend later 2\n"),
+        (
+            "write 5 1001 68656c6c6f\nwrite 5 1002 61\nread 5\ndelete 5\nread 5\ndelete 5\n",
+            0,
+            "ok\nexists\ndata 1001 68656c6c6f\nok\nnone\nnone\n",
+        ),
+        (
+            "open 5 1001 2\ndelete 5\nwrite 5 1002 61\nfinish 5\ndelete 5\nwrite 5 1002 61\nread 5\n",
+            0,
+            "ok\nwriting\nwriting\nok\nok\nok\ndata 1002 61\n",
+        ),
         (
             "open 5 1001 2\npush 5 616263\npush 6 61\nread 5\nopen 5 1002 1\n",
             0,
@@ -112,5 +123,117 @@ fn streams_that_fail_end_a_run(rt: HostRuntime) -> Result<(), Fail> {
     let (status, shown) = played(alloc, WORDS, 1, source, sink)?;
     assert_eq!(rt; status, 3);
     assert_eq!(rt; shown.as_slice(), b"".as_slice());
+    Ok(())
+}
+
+// Disks of one volume that fail by one rule, once.
+#[tactic(auto, using(crate::proofs::OneDisk::holds_of_one))]
+fn failing_disks(alloc: Global, call: Call, nth: u64) -> Result<Vec<MemDisks>, AllocError>
+    ensures aside { IfOk result (λ disks. All (λ d. InEachWorld (⟦<MemDisks as PoolDisks>⟧.worlds d) DraftsAside) disks.items) }
+{
+    let mut disk = MemDisks::empty(alloc, 1)?;
+    disk.fail(FailRule {
+        call,
+        nth,
+        forever: false,
+    })?;
+    let mut disks = Vec::new(alloc);
+    disks.push(disk)?;
+    Ok(disks)
+}
+
+#[test]
+fn calls_that_fail_are_answered(rt: HostRuntime) -> Result<(), Fail> {
+    let alloc = rt.alloc();
+    let words = words_of(alloc, WORDS)?;
+    for (call, nth, want, replies) in [
+        (Call::Publish, 1, 0, "failed\nunsure\nok\nnone\n"),
+        (Call::Publish, 2, 0, "failed\nunsure\nok\nnone\n"),
+        (Call::Create, 1, 0, "failed\nwaiting\nok\nnone\n"),
+        (Call::Create, 2, 0, "failed\nwaiting\nok\nnone\n"),
+        (Call::Append, 1, 0, "failed\nwaiting\nok\nnone\n"),
+        (Call::Seal, 2, 0, "failed\nwaiting\nok\nnone\n"),
+        (Call::Lend, 1, 0, "ok\nfailed\nok\nnone\n"),
+        (Call::Read, 1, 0, "ok\nfailed\nok\nnone\n"),
+        (Call::Remove, 1, 0, "ok\ndata 1001 61\nfailed\nunsure\n"),
+        (Call::Remove, 2, 0, "ok\ndata 1001 61\nfailed\nunsure\n"),
+        (Call::List, 9, 6, "end open\n"),
+    ] {
+        let disks = failing_disks(alloc, call, nth)?;
+        let script = b"write 5 1001 61\nread 5\ndelete 5\nread 5\n";
+        let mut source = PlainSource::make(script.to_vec(alloc)?);
+        let mut sink = PlainSink::make(alloc);
+        let run = play(alloc, words.as_slice(), disks, &mut source, &mut sink);
+        assert_eq!(rt; run.status, want, "of {call:?} {nth}");
+        assert_eq!(rt; sink.bytes(), replies.as_bytes(), "of {call:?} {nth}");
+    }
+    Ok(())
+}
+
+// Puts a file on volume 1.
+#[tactic(auto, using(crate::proofs::PutFiles::put_aside))]
+fn put_file(disk: &mut MemDisks, path: &str, bytes: &[u8]) -> Result<(), AllocError>
+    requires one_volume { ⟦<MemDisks as PoolDisks>⟧.volume_count disk.old ≡ 1 }
+    requires aside { InEachWorld (⟦<MemDisks as PoolDisks>⟧.worlds disk.old) DraftsAside }
+    ensures one_volume { ⟦<MemDisks as PoolDisks>⟧.volume_count disk.new ≡ 1 }
+    ensures aside { OnOk result (InEachWorld (⟦<MemDisks as PoolDisks>⟧.worlds disk.new) DraftsAside) }
+{
+    match disk.put(1, path, bytes) {
+        Ok(()) => Ok(()),
+        Err(fault) => Err(fault),
+    }
+}
+
+// The only disks of a run.
+#[tactic(auto, using(crate::proofs::OneDisk::holds_of_one))]
+fn only(alloc: Global, disk: MemDisks) -> Result<Vec<MemDisks>, AllocError>
+    requires aside { InEachWorld (⟦<MemDisks as PoolDisks>⟧.worlds disk) DraftsAside }
+    ensures aside { IfOk result (λ disks. All (λ d. InEachWorld (⟦<MemDisks as PoolDisks>⟧.worlds d) DraftsAside) disks.items) }
+{
+    let mut disks = Vec::new(alloc);
+    disks.push(disk)?;
+    Ok(disks)
+}
+
+// Disks of one volume with the pair of block 5, a block file of 6 without a meta file, a meta file of 7 alone, and a block
+// file of 8 that was being written.
+fn stored_disks(alloc: Global) -> Result<Vec<MemDisks>, AllocError>
+    ensures aside { IfOk result (λ disks. All (λ d. InEachWorld (⟦<MemDisks as PoolDisks>⟧.worlds d) DraftsAside) disks.items) }
+{
+    let mut disk = MemDisks::empty(alloc, 1)?;
+    put_file(
+        &mut disk,
+        "current/finalized/subdir0/subdir0/blk_5",
+        b"hello",
+    )?;
+    put_file(
+        &mut disk,
+        "current/finalized/subdir0/subdir0/blk_5_1001.meta",
+        b"",
+    )?;
+    put_file(&mut disk, "current/finalized/subdir0/subdir0/blk_6", b"hi")?;
+    put_file(
+        &mut disk,
+        "current/finalized/subdir0/subdir0/blk_7_1001.meta",
+        b"",
+    )?;
+    put_file(&mut disk, "current/rbw/blk_8", b"")?;
+    only(alloc, disk)
+}
+
+#[test]
+fn stored_replicas_are_opened(rt: HostRuntime) -> Result<(), Fail> {
+    let alloc = rt.alloc();
+    let words = words_of(alloc, WORDS)?;
+    let disks = stored_disks(alloc)?;
+    let script =
+        b"read 5\nwrite 5 1002 61\nread 6\nread 7\nread 8\ndelete 6\nwrite 6 1002 61\nread 6\ndelete 5\nread 5\n";
+    let mut source = PlainSource::make(script.to_vec(alloc)?);
+    let mut sink = PlainSink::make(alloc);
+    let run = play(alloc, words.as_slice(), disks, &mut source, &mut sink);
+    let replies =
+        "data 1001 68656c6c6f\nexists\nwaiting\nnone\nwaiting\nok\nok\ndata 1002 61\nok\nnone\n";
+    assert_eq!(rt; run.status, 0);
+    assert_eq!(rt; sink.bytes(), replies.as_bytes());
     Ok(())
 }

@@ -1,2 +1,11 @@
-pub mod Listing
-pub mod Bare
+pub mod Lists
+pub mod Looks
+pub mod Removals
+pub mod Slots
+pub mod Blocks
+pub mod Adding
+pub mod Planned
+pub mod Shown
+pub mod Opened
+pub mod Opens
+pub mod Ending

@@ -1,3 +1,6 @@
-pub mod ReplicaNames
 pub mod Remaining
+pub mod Plan
+pub mod Looking
+pub mod Clearing
+pub mod Found
 pub mod Outcome

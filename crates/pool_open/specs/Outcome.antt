@@ -1,14 +1,36 @@
 -- What an opening gives.
-use Rattle.std.specs.Prelude.{◌≡◌, List, [], ◌∷◌, Option, Some, Result, Ok, Err}
+use Rattle.std.specs.Prelude.{ℕ, ◌≡◌, ◌≢◌, ◌⊎◌, Bool, IsTrue, List, [], ◌∷◌, Option, Some, IsSome, Result, Ok, Err}
+use Rattle.volume_layout.specs.Paths.{IsBlockId, IsStamp, meta_path}
 use Rattle.disk_model.specs.Files.{Files}
 use Rattle.disk_model.specs.Worlds.{World}
+use Rattle.disk_model.specs.Told.{IsWorldOf, InEachWorld, CanLeave}
+use Rattle.disk_model.specs.Moments.{AddsOnly}
+use Rattle.map_model.specs.Cells.{Replica, Cell, Cells, absent, final, waiting}
+use Rattle.map_model.specs.Checksums.{Matches}
+use Rattle.map_model.specs.Copies.{OneWhole}
+use Rattle.map_model.specs.Openings.{MakesCells, shown_files, ReadsAlike}
+use Rattle.map_model.specs.Sound.{HasSoundCopies}
+use Rattle.map_model.specs.Stands.{Leftover}
+use Rattle.pool_state.specs.declared.entry.Entry.{Entry}
 use Rattle.pool_state.specs.declared.pool_record.Pool.{Pool}
+use Rattle.pool_state.specs.Stands.{PoolStands}
 use Rattle.pool_open.specs.declared.opening.OpenFault.{OpenFault}
 use Rattle.pool_open.specs.declared.opening.OpenFault.TheVariants.{Failed, Memory, Later}
 
 -- the disks tell that they hold this image, without drafts
 abbrev pub HoldsImage : Option (List World) → Files → Type 0
 HoldsImage told image = told ≡ Some (record { settled = image; drafts = [] } ∷ [])
+
+-- two metas of one block stand in its own directory
+pub record HasTwoMetas (image : Files) : Type 0 where
+  pub id : ℕ
+  pub stamp : ℕ
+  pub other : ℕ
+  pub valid : IsBlockId id
+  pub in_range : IsStamp stamp × IsStamp other
+  pub apart : stamp ≢ other
+  pub stands : IsSome (image 1 (meta_path id stamp))
+  pub other_stands : IsSome (image 1 (meta_path id other))
 
 -- the disks that a fault gives back
 abbrev pub fault_disks : {D : Type 0} → OpenFault D → D
@@ -20,3 +42,31 @@ fault_disks (Later disks) = disks
 abbrev pub disks_of : {D S T R : Type 0} → Result (Pool D S T R) (OpenFault D) → D
 disks_of (Ok pool) = pool.disks
 disks_of (Err fault) = fault_disks fault
+
+-- the copies that are read of a world match their meta files
+abbrev pub HasSoundFiles : World → Type 0
+HasSoundFiles world = (id : ℕ) → IsBlockId id → HasSoundCopies Matches (shown_files world id)
+
+-- the image reads as one of these worlds does
+abbrev pub ReadsAsOne : Option (List World) → Files → Type 0
+ReadsAsOne told image = (world : World) × IsWorldOf told world × ReadsAlike (shown_files world) image
+
+-- The cells are those of a world that was told: it was shown, and every image that a crash could leave since reads as it does.
+pub record Shows (told : Option (List World)) (cells : Cells) (past since : ℕ → Files → Type 0) : Type 0 where
+  pub world : World
+  pub is : IsWorldOf told world
+  pub made : MakesCells (shown_files world) cells
+  pub images : AddsOnly past since (ReadsAlike (shown_files world))
+
+-- no writer is open, and nothing is in doubt
+abbrev pub IsOpened : Cell → Type 0
+IsOpened cell = (cell ≡ absent) ⊎ (((replica : Replica) × (cell ≡ final replica)) ⊎ (cell ≡ waiting))
+
+-- AN OPENING: disks that told some worlds before it and tell others after it, and books which stand for cells. Where the disks
+-- tell, those are the cells of one world; where its copies match their metas, so the pool knows. Each block has one whole copy at most.
+pub record Opens (before after : Option (List World)) (volumes : ℕ) (entries : ℕ → Option Entry) (found : ℕ → List Leftover) (past since : ℕ → Files → Type 0) : Type 0 where
+  pub cells : Cells
+  pub stands : (sound : Bool) → (IsTrue sound → InEachWorld before HasSoundFiles) → PoolStands after volumes entries found sound cells
+  pub opened : (id : ℕ) → IsBlockId id → IsOpened (cells id)
+  pub shown : IsSome before → Shows before cells past since
+  pub whole : (image : Files) → CanLeave after image → OneWhole image

@@ -1,8 +1,12 @@
-//! The opening of a pool: the directories of its volume are looked into, and none may hold a file of a block yet.
+//! The opening of a pool that holds stored replicas.
 #![tactic(auto)]
 
-mod looking;
+mod books;
+mod clearing;
+mod metas;
 mod opening;
+mod outcome;
+mod paths;
 
 pub use opening::{OpenFault, open_pool};
 

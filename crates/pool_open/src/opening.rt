@@ -2,17 +2,21 @@
 ghost use Rattle.std.specs.Prelude.{◌≡◌, [], ◌∷◌, Some, Err, IfOk, IsOk};
 ghost use Rattle.disk_model.specs.Causes.{Rose};
 ghost use Rattle.disk_model.specs.Files.{Files};
+ghost use Rattle.disk_model.specs.Moments.{AddsOnly};
 ghost use Rattle.disk_model.specs.Told.{InEachWorld};
-ghost use Rattle.map_model.specs.Cells.{absent};
 ghost use Rattle.map_model.specs.World.{DraftsAside};
-ghost use Rattle.pool_state.specs.Stands.{Stands, GoesOn};
-ghost use Rattle.pool_open.specs.ReplicaNames.{HasReplicaName};
+ghost use Rattle.pool_state.specs.Books.{entry_at, found_at};
+ghost use Rattle.pool_state.specs.Stands.{GoesOn};
 ghost use Rattle.pool_open.specs.Remaining.{Remains};
-ghost use Rattle.pool_open.specs.Outcome.{disks_of, HoldsImage};
+ghost use Rattle.pool_open.specs.Outcome.{disks_of, HoldsImage, HasTwoMetas, Opens, ReadsAsOne};
 
-use crate::looking::look_in_pool;
-use disk_model::{DiskError, PoolDisks};
-use pool_state::{Pool, make_pool};
+use crate::books::make_books;
+use crate::clearing::{VOLUME, clear_paths};
+use crate::metas::find_several;
+use crate::paths::list_paths;
+use disk_model::{DiskError, Failed, PoolDisks};
+use pool_state::Pool;
+use pool_survey::survey_volume;
 use std::alloc::Global;
 
 /// Why a pool was not opened. The disks are given back.
@@ -20,30 +24,50 @@ use std::alloc::Global;
 pub enum OpenFault<D: Drop> {
     /// A call of the disks failed.
     Failed(D),
-    /// There was no memory.
+    /// There was no memory. Nothing was changed.
     Memory(D),
-    /// A file of a block stands in a directory of the pool: stored replicas aren't opened yet.
+    /// Two metas of one block stand in its own directory: they aren't brought down to one yet. Nothing was changed.
     Later(D),
 }
 
-/// Opens the pool of these disks, which hold no file of a block yet. It lists each directory of the pool on volume 1
-/// once, those of files being written and of moves first, then those of finalised files by their two numbers, 0 to 31
-/// each; it makes no other call of the disks. It stops at the first name of a block file or of a meta file, even where
-/// a finalised file of that block doesn't belong there, and at the first call that fails. Other names don't matter.
+/// Opens the pool of these disks. It lists each directory of the pool on volume 1 once, and asks the size of each block
+/// file that counts, by ascending ids. A block file with its meta is a replica, of any length; a block file without one,
+/// and else a block file under `current/rbw`, waits to be deleted, and so do the files under `current/rbw` beside it.
+/// Then it removes every name in `tmp`, the files under `current/rbw` of each replica, and the metas without a block
+/// file. Names that aren't those of block files or of meta files stay, outside `tmp`. All memory is taken before the
+/// first removal; it stops at the first call that fails.
 pub fn open_pool<D: PoolDisks>(alloc: Global, mut disks: D) -> Result<Pool<D>, OpenFault<D>>
     requires aside { InEachWorld (D.worlds disks) DraftsAside }
     requires one_volume { D.volume_count disks ≡ 1 }
-    ensures stands { IfOk result (λ pool. Stands D.worlds D.volume_count pool (λ id. absent)) }
-    ensures looks { Remains (D.worlds disks) (D.worlds (disks_of result)) }
+    ensures opened { IfOk result (λ pool. Opens (D.worlds disks) (D.worlds pool.disks) (D.volume_count pool.disks)
+        (entry_at pool.map) (found_at pool.map) (D.left_since disks) (D.left_since pool.disks)) }
+    ensures images { AddsOnly (D.left_since disks) (D.left_since (disks_of result)) (ReadsAsOne (D.worlds disks)) }
     ensures goes_on { GoesOn D.worlds D.faults D.next_number D.moment D.volume_count disks (disks_of result) }
     ensures failed { (d : _) → result ≡ Err (OpenFault.Failed d) → Rose (D.faults disks) (D.faults d) }
-    ensures later { (image : Files) → HoldsImage (D.worlds disks) image → (d : _) → result ≡ Err (OpenFault.Later d) → HasReplicaName image }
-    ensures none { (image : Files) → HoldsImage (D.worlds disks) image → IsOk result → HasReplicaName image → ⊥ }
+    ensures memory { (d : _) → result ≡ Err (OpenFault.Memory d) → Remains (D.worlds disks) (D.worlds d) }
+    ensures unchanged { (d : _) → result ≡ Err (OpenFault.Later d) → Remains (D.worlds disks) (D.worlds d) }
+    ensures later { (image : Files) → HoldsImage (D.worlds disks) image → (d : _) → result ≡ Err (OpenFault.Later d) → HasTwoMetas image }
+    ensures one_meta { (image : Files) → HoldsImage (D.worlds disks) image → IsOk result → HasTwoMetas image → ⊥ }
 {
-    match look_in_pool(alloc, &mut disks) {
-        Ok(false) => Ok(make_pool(alloc, disks)),
-        Ok(true) => Err(OpenFault::Later(disks)),
-        Err(DiskError::Failed) => Err(OpenFault::Failed(disks)),
-        Err(DiskError::Memory) => Err(OpenFault::Memory(disks)),
+    let survey = match survey_volume(alloc, &mut disks, VOLUME) {
+        Ok(survey) => survey,
+        Err(DiskError::Failed) => return Err(OpenFault::Failed(disks)),
+        Err(DiskError::Memory) => return Err(OpenFault::Memory(disks)),
+    };
+    if let Some(_) = find_several(&survey.blocks) {
+        return Err(OpenFault::Later(disks));
+    }
+    let map = match make_books(alloc, &mut disks, &survey.blocks) {
+        Ok(map) => map,
+        Err(DiskError::Failed) => return Err(OpenFault::Failed(disks)),
+        Err(DiskError::Memory) => return Err(OpenFault::Memory(disks)),
+    };
+    let paths = match list_paths(alloc, &survey) {
+        Ok(paths) => paths,
+        Err(_) => return Err(OpenFault::Memory(disks)),
+    };
+    match clear_paths(&mut disks, &paths) {
+        Ok(()) => Ok(Pool { disks, map }),
+        Err(Failed) => Err(OpenFault::Failed(disks)),
     }
 }

@@ -12,13 +12,14 @@ use std::test::Fail;
 /// What an opening answered.
 #[derive(Clone, Copy, Debug, PartialEq, Eq)]
 enum Answer {
-    Opened,
+    /// A pool with so many entries, and so many files that it found of waiting blocks.
+    Opened(usize, usize),
     Failed,
     Memory,
     Later,
 }
 
-use Answer::{Later, Opened};
+use Answer::Opened;
 
 // Puts an empty file at a path of volume 1.
 fn put_file<D: PoolDisks>(alloc: Global, disks: &mut D, path: &str) -> Result<(), DiskError>
@@ -45,7 +46,7 @@ fn opened<D: PoolDisks>(alloc: Global, disks: D) -> Answer
     requires one_volume { D.volume_count disks ≡ 1 }
 {
     match open_pool(alloc, disks) {
-        Ok(_) => Answer::Opened,
+        Ok(pool) => Opened(pool.map.entries.len(), pool.map.found.len()),
         Err(OpenFault::Failed(_)) => Answer::Failed,
         Err(OpenFault::Memory(_)) => Answer::Memory,
         Err(OpenFault::Later(_)) => Answer::Later,
@@ -60,23 +61,21 @@ fn opened_with(alloc: Global, path: &str) -> Result<Answer, DiskError> {
 }
 
 #[test]
-fn a_pool_opens_unless_it_holds_a_file_of_a_block(rt: HostRuntime) -> Result<(), Fail> {
+fn a_block_file_waits_and_a_meta_alone_goes(rt: HostRuntime) -> Result<(), Fail> {
     let alloc = rt.alloc();
-    assert_eq!(rt; opened(alloc, PlainDisks::make(alloc, 1)), Opened);
+    assert_eq!(rt; opened(alloc, PlainDisks::make(alloc, 1)), Opened(0, 0));
     for (path, answer) in [
-        ("current/rbw/blk_5", Later),
-        ("tmp/blk_5", Later),
-        // the block's own directory is another one
-        ("current/finalized/subdir31/subdir31/blk_5_1001.meta", Later),
+        ("current/rbw/blk_5", Opened(1, 1)),
+        ("current/finalized/subdir0/subdir0/blk_5", Opened(1, 1)),
         (
-            "current/finalized/subdir0/subdir0/blk_9223372036854775807",
-            Later,
+            "current/finalized/subdir0/subdir0/blk_5_1001.meta",
+            Opened(0, 0),
         ),
-        ("current/rbw/junk", Opened),
-        ("tmp/blk_05", Opened),
-        ("current/finalized/subdir0/subdir0/blk_5.meta", Opened),
-        ("current/finalized/subdir32/subdir0/blk_5", Opened),
-        ("current/finalized/blk_5", Opened),
+        ("current/rbw/blk_5_1001.meta", Opened(0, 0)),
+        ("tmp/blk_5", Opened(0, 0)),
+        // the block's own directory is another one
+        ("current/finalized/subdir31/subdir31/blk_5", Opened(0, 0)),
+        ("current/rbw/junk", Opened(0, 0)),
     ] {
         assert_eq!(rt; opened_with(alloc, path), Ok(answer), "at {path}");
     }

@@ -1,21 +1,23 @@
 -- How a pool that stands for cells goes on to stand for others.
-use Rattle.std.proofs.Common.{◌≡◌, ◌≢◌, ◌≤◌, inl, inr, ℕ, ◌==◌, if◌then◌else◌, List, [], Option, None, Some, refl, sym, ◌∙◌, ap, subst, IsFalse, IfSome, option_map}
+use Rattle.std.proofs.Common.{◌≡◌, ◌≢◌, ◌≤◌, inl, inr, ℕ, ◌==◌, if◌then◌else◌, Bool, Vec, Global, List, [], Option, None, Some, refl, sym, ◌∙◌, ap, subst, IsFalse, IfSome, option_map}
 use Rattle.std.proofs.lemmas.Bool.{cases_eq, eq-eqb, ne_eqb, false≢true}
 use Rattle.disk_model.specs.Worlds.{World}
 use Rattle.volume_layout.specs.Paths.{IsBlockId}
-use Rattle.map_model.specs.Checksums.{Matches}
+use Rattle.map_model.specs.Sound.{MatchesIf}
 use Rattle.map_model.specs.Cells.{Cell, Cells, absent}
 use Rattle.map_model.specs.Slots.{File, View, is_standing, view_of}
-use Rattle.map_model.specs.Stands.{Agrees, Leftover, BlockStands}
+use Rattle.map_model.specs.Stands.{Agrees, Leftover, Each, BlockStands}
 use Rattle.map_model.specs.Tenures.{books_of}
 use Rattle.pool_state.specs.declared.entry.Entry.{Entry}
-use Rattle.pool_state.specs.Books.{book_entry, block_books}
-use Rattle.pool_state.specs.Stands.{with_cell, PoolStands, HoldNoBlock}
-use Rattle.pool_state.proofs.Reaching.{Reaches, ComesFrom}
+use Rattle.pool_state.specs.declared.leftover.Leftover.{Leftover as FoundFile}
+use Rattle.pool_state.specs.declared.entry.State.{State}
+use Rattle.pool_state.specs.Books.{with_state, book_entry, of_block, block_books}
+use Rattle.pool_state.specs.Stands.{with_cell, IsVolume, IsNotWaiting, PoolStands, HoldNoBlock}
+use Rattle.pool_state.specs.Reaching.{Reaches, ComesFrom}
 
 -- a view in which nothing stands
-bare_stands : (view : View) → ((vol : ℕ) (file : File) → IsFalse (is_standing (view vol file))) → BlockStands Matches view (books_of None [] None) absent
-bare_stands view bare = record {
+bare_stands : (M : List ℕ → List ℕ → Type 0) (view : View) → ((vol : ℕ) (file : File) → IsFalse (is_standing (view vol file))) → BlockStands M view (books_of None [] None) absent
+bare_stands M view bare = record {
   agrees = tt;
   content = tt;
   accounted = λ v f there. absurd (false≢true (sym (bare v f) ∙ there));
@@ -28,58 +30,76 @@ bare_stands view bare = record {
 }
 
 -- disks without a file of a block, and books without an entry, stand for cells that are all absent
-pub empty_stands : (told : Option (List World)) (volumes : ℕ) (entries : ℕ → Option Entry) → 1 ≤ volumes → HoldNoBlock told →
-    ((id : ℕ) → entries id ≡ None) → PoolStands told volumes entries (λ id. absent)
-empty_stands told volumes entries some_volume holds none = record {
+pub empty_stands : (told : Option (List World)) (volumes : ℕ) (entries : ℕ → Option Entry) (found : ℕ → List Leftover) (sound : Bool) → 1 ≤ volumes → HoldNoBlock told →
+    ((id : ℕ) → entries id ≡ None) → ((id : ℕ) → found id ≡ []) → PoolStands told volumes entries found sound (λ id. absent)
+empty_stands told volumes entries found sound some_volume holds none no_files = record {
   some_volume = some_volume;
   agrees = λ id valid. subst (λ (e : Option Entry). Agrees (option_map book_entry e) absent) (sym (none id)) tt;
-  placed = λ id valid. subst (λ (e : Option Entry). IfSome e (λ entry. (1 ≤ entry.vol) × (entry.vol ≤ volumes))) (sym (none id)) tt;
-  left = λ id. [];
-  clean = λ id valid is. refl;
-  blocks = λ world is id valid. subst (λ (e : Option Entry). BlockStands Matches (view_of world id) (block_books e []) absent) (sym (none id))
-      (bare_stands (view_of world id) (holds.none world is id valid));
+  placed = λ id valid. subst (λ (e : Option Entry). IfSome e (λ entry. IsVolume volumes entry.vol)) (sym (none id)) tt;
+  found_placed = λ id valid. subst (Each (λ l. IsVolume volumes l.vol)) (sym (no_files id)) tt;
+  clean = λ id valid is. no_files id;
+  blocks = λ world is id valid. subst (λ (e : Option Entry). BlockStands (MatchesIf sound) (view_of world id) (block_books e (found id)) absent) (sym (none id))
+      (subst (λ left. BlockStands (MatchesIf sound) (view_of world id) (block_books None left) absent) (sym (no_files id))
+      (bare_stands (MatchesIf sound) (view_of world id) (holds.none world is id valid)));
   aside = holds.aside;
 }
 
-module _ {told told' : Option (List World)} {volumes volumes' : ℕ} {entries entries' : ℕ → Option Entry} {cells : Cells} (stands : PoolStands told volumes entries cells)
+module _ {told told' : Option (List World)} {volumes volumes' : ℕ} {entries entries' : ℕ → Option Entry} {found found' : ℕ → List Leftover} {sound : Bool} {cells : Cells}
+    (stands : PoolStands told volumes entries found sound cells)
     (id : ℕ) (valid : IsBlockId id) (step : View → View → Type 0) (reaches : Reaches id step told told') (same_volumes : volumes' ≡ volumes)
     (entry : Option Entry) (left : List Leftover) (cell : Cell)
     (changed : (other : ℕ) → entries' other ≡ (if other == id then entry else entries other))
+    (left_changed : (other : ℕ) → found' other ≡ (if other == id then left else found other))
     (agrees : Agrees (option_map book_entry entry) cell)
-    (placed : IfSome entry (λ e. (1 ≤ e.vol) × (e.vol ≤ volumes)))
-    (clean : entry ≡ None → left ≡ [])
-    (own : (before after : View) → step before after → BlockStands Matches before (block_books (entries id) (stands.left id)) (cells id) →
-    BlockStands Matches after (block_books entry left) cell) where
+    (placed : IfSome entry (λ e. IsVolume volumes e.vol))
+    (left_placed : Each (λ l. IsVolume volumes l.vol) left)
+    (clean : IsNotWaiting entry → left ≡ [])
+    (own : (before after : View) → step before after → BlockStands (MatchesIf sound) before (block_books (entries id) (found id)) (cells id) →
+    BlockStands (MatchesIf sound) after (block_books entry left) cell) where
   -- what the books say of each block
   abbrev Said : (P : ℕ → Option Entry → List Leftover → Cell → Type 0) → Type 0
-  Said P = (other : ℕ) → IsBlockId other → P other (entries' other) (if other == id then left else stands.left other) (with_cell cells id cell other)
+  Said P = (other : ℕ) → IsBlockId other → P other (entries' other) (found' other) (with_cell cells id cell other)
 
   said : (P : ℕ → Option Entry → List Leftover → Cell → Type 0) → P id entry left cell →
-      ((other : ℕ) → IsBlockId other → id ≢ other → P other (entries other) (stands.left other) (cells other)) → Said P
+      ((other : ℕ) → IsBlockId other → id ≢ other → P other (entries other) (found other) (cells other)) → Said P
   said P here away other valid_other =
-      subst (λ (e : Option Entry). P other e (if other == id then left else stands.left other) (with_cell cells id cell other)) (sym (changed other))
+      subst (λ (l : List Leftover). P other (entries' other) l (with_cell cells id cell other)) (sym (left_changed other))
+      (subst (λ (e : Option Entry). P other e (if other == id then left else found other) (with_cell cells id cell other)) (sym (changed other))
       (elim (cases_eq other id) [
         | inl same ↦ rw (eq-eqb other id same) (subst (λ n. P n entry left cell) (sym same) here)
         | inr apart ↦ rw (ne_eqb other id apart) (away other valid_other (λ e. apart (sym e)))
-      ])
+      ]))
 
   -- THE BLOCK CHANGED, and the pool stands for the cells with its new one
-  pub pool_stands : PoolStands told' volumes' entries' (with_cell cells id cell)
+  pub pool_stands : PoolStands told' volumes' entries' found' sound (with_cell cells id cell)
   pool_stands = record {
     some_volume = subst (λ n. 1 ≤ n) (sym same_volumes) stands.some_volume;
     agrees = said (λ other e l c. Agrees (option_map book_entry e) c) agrees (λ other valid_other apart. stands.agrees other valid_other);
-    placed = subst (λ n. (other : ℕ) → IsBlockId other → IfSome (entries' other) (λ e. (1 ≤ e.vol) × (e.vol ≤ n))) (sym same_volumes)
-        (said (λ other e l c. IfSome e (λ x. (1 ≤ x.vol) × (x.vol ≤ volumes))) placed (λ other valid_other apart. stands.placed other valid_other));
-    left = λ other. if other == id then left else stands.left other;
-    clean = said (λ other e l c. e ≡ None → l ≡ []) clean (λ other valid_other apart. stands.clean other valid_other);
+    placed = subst (λ n. (other : ℕ) → IsBlockId other → IfSome (entries' other) (λ e. IsVolume n e.vol)) (sym same_volumes)
+        (said (λ other e l c. IfSome e (λ x. IsVolume volumes x.vol)) placed (λ other valid_other apart. stands.placed other valid_other));
+    found_placed = subst (λ n. (other : ℕ) → IsBlockId other → Each (λ l. IsVolume n l.vol) (found' other)) (sym same_volumes)
+        (said (λ other e l c. Each (λ x. IsVolume volumes x.vol) l) left_placed (λ other valid_other apart. stands.found_placed other valid_other));
+    clean = said (λ other e l c. IsNotWaiting e → l ≡ []) clean (λ other valid_other apart. stands.clean other valid_other);
     blocks = λ world is.
         let from : ComesFrom id step told world = reaches.each world is in
-        said (λ other e l c. BlockStands Matches (view_of world other) (block_books e l) c)
+        said (λ other e l c. BlockStands (MatchesIf sound) (view_of world other) (block_books e l) c)
         (own (view_of from.was id) (view_of world id) from.stepped (stands.blocks from.was from.is id valid))
-        (λ other valid_other apart. subst (λ v. BlockStands Matches v (block_books (entries other) (stands.left other)) (cells other))
+        (λ other valid_other apart. subst (λ v. BlockStands (MatchesIf sound) v (block_books (entries other) (found other)) (cells other))
         (sym (from.others other valid_other apart)) (stands.blocks from.was from.is other valid_other));
     aside = λ world is. let from : ComesFrom id step told world = reaches.each world is in from.aside (stands.aside from.was from.is);
   }
+
+-- files that the opening found stay listed
+pub found_kept : (id : ℕ) (found found' : ℕ → List Leftover) → ((other : ℕ) → found' other ≡ found other) →
+    (other : ℕ) → found' other ≡ (if other == id then found id else found other)
+found_kept id found found' same other = elim (cases_eq other id) [
+  | inl here ↦ rw (eq-eqb other id here) (same other ∙ ap found here)
+  | inr apart ↦ rw (ne_eqb other id apart) (same other)
+]
+
+-- the list of them is the same
+pub same_found : (old new : Vec FoundFile Global) → new ≡ old → (other : ℕ) → of_block other new.items ≡ of_block other old.items
+same_found old new same other = ap (λ (v : Vec FoundFile Global). of_block other v.items) same
 
 -- an entry that was added and taken away again
 pub undone : (id : ℕ) (old mid new : ℕ → Option Entry) (entry : Entry) → old id ≡ None →
@@ -98,3 +118,15 @@ overwritten id old mid new entry other_entry added changed other = elim (cases_e
   | inl same ↦ changed other ∙ rw (eq-eqb other id same) refl
   | inr apart ↦ changed other ∙ rw (ne_eqb other id apart) (added other ∙ rw (ne_eqb other id apart) refl)
 ]
+
+-- an entry that was added, and then given another state
+pub restated : (id : ℕ) (old mid new : ℕ → Option Entry) (entry : Entry) (state : State) →
+    ((other : ℕ) → mid other ≡ (if other == id then Some entry else old other)) →
+    ((other : ℕ) → new other ≡ (if other == id then option_map (with_state state) (mid id) else mid other)) →
+    (other : ℕ) → new other ≡ (if other == id then Some (with_state state entry) else old other)
+restated id old mid new entry state added changed other =
+    let here : mid id ≡ Some entry = added id ∙ rw (eq-eqb id id refl) refl in
+    elim (cases_eq other id) [
+      | inl same ↦ changed other ∙ rw (eq-eqb other id same) (ap (λ (e : Option Entry). option_map (with_state state) e) here)
+      | inr apart ↦ changed other ∙ rw (ne_eqb other id apart) (added other ∙ rw (ne_eqb other id apart) refl)
+    ]

@@ -1,35 +1,45 @@
 -- What the end of a fresh write leaves, at each of its exits.
-use Rattle.std.proofs.Common.{◌≡◌, ◌≤◌, inl, inr, ℕ, ◌==◌, if◌then◌else◌, true, false, List, [], ◌∷◌, length, Option, None, Some, refl, sym, ◌∙◌, ap, subst, arith, IsTrue, IfSome, IsSome, option_map, nat_lt, unwrap_or}
+use Rattle.std.proofs.Common.{◌≡◌, inl, inr, ℕ, ◌==◌, if◌then◌else◌, ◌⊎◌, ◌++◌, Bool, true, false, List, [], length, Option, None, Some, refl, sym, ◌∙◌, ap, subst, arith, IsTrue, IfSome, IsSome, option_map, nat_lt, unwrap_or}
 use Rattle.std.proofs.Common.{lit≤}
+use Rattle.std.proofs.lemmas.Bool.{false≢true}
 use Rattle.std.proofs.lemmas.Bool.Decides.{nat_tests}
 use Rattle.disk_model.specs.Worlds.{World, HasDraft, DraftPlace, draft_at, published}
 use Rattle.disk_model.specs.Told.{IsWorldOf, PicksOne, StandsBeforeOrAfter, StillStands, told_bytes}
 use Rattle.disk_model.proofs.Laws.{is_told}
 use Rattle.volume_layout.specs.Paths.{IsBlockId}
 use Rattle.volume_layout.proofs.Reading.{is_stamp-IsStamp}
-use Rattle.map_model.specs.Cells.{Cell, Cells, final, growing, unsure, waiting}
+use Rattle.map_model.specs.Cells.{Replica, Cell, Cells, absent, final, growing, unsure, waiting}
 use Rattle.map_model.specs.Checksums.{Matches}
-use Rattle.map_model.specs.Steps.{Step, CarriedOut, finish, Reply, failed, done}
+use Rattle.map_model.specs.Sound.{MatchesIf}
+use Rattle.map_model.specs.Allows.{Allows}
+use Rattle.map_model.specs.Steps.{Step, CarriedOut, finish, drop_write, Reply}
 use Rattle.map_model.specs.Slots.{File, meta, writing_block, writing_meta, is_file, path_of, drafted, View, view_of, publish_in}
-use Rattle.map_model.specs.Stands.{Agrees, in_doubt, BlockStands}
-use Rattle.map_model.specs.Tenures.{books_of, Fails, Writer, writer_entry, final_entry, new_replica, block_left, meta_left, both_published, FinishesFresh, finished, given_up_by_caller}
+use Rattle.map_model.specs.Stands.{Agrees, Leftover, is_written, in_doubt, BlockStands}
+use Rattle.map_model.specs.Tenures.{books_of, Fails, Writer, writer_entry, final_entry, new_replica, both_published, both_dropped, FinishesFresh, finished, DropsFresh, dropped}
 use Rattle.map_model.proofs.FinishFresh.{finish_fresh_stands, fresh_books}
 use Rattle.map_model.proofs.Drop.{drop_fresh_stands}
 use Rattle.map_model.proofs.Bridge.{view_drafted}
 use Rattle.pool_state.specs.declared.entry.Entry.{Entry}
 use Rattle.pool_state.specs.declared.entry.State.{State}
 use Rattle.pool_state.specs.declared.entry.State.TheVariants.{Finalised, Writing, Unsure, Waiting}
-use Rattle.pool_state.specs.Answers.{unlimited, TakesStep, IsWritingState, IsWritten}
-use Rattle.pool_state.specs.Books.{entry_state, book_entry, block_books, with_state}
-use Rattle.pool_state.specs.Stands.{with_cell, PoolStands}
+use Rattle.pool_state.specs.Answers.{unlimited, IsWritingState, IsWritten}
+use Rattle.pool_state.specs.Books.{entry_state, book_entry, left_in, block_books, with_state}
+use Rattle.pool_state.specs.Stands.{with_cell, IsVolume, IsNoWait, IsNotWaiting, PoolStands}
 use Rattle.pool_state.specs.Writers.{Pair, PairStands, meta_header}
 use Rattle.pool_state.specs.Writers as writers
-use Rattle.pool_state.proofs.Reaching.{Reaches, ComesFrom, Stays, reaches_same, reaches_published, reaches_publish}
-use Rattle.pool_state.proofs.Changing.{pool_stands}
+use Rattle.pool_state.specs.Reaching.{Reaches, ComesFrom}
+use Rattle.pool_state.proofs.Reaching.{reaches_published, reaches_publish}
+use Rattle.pool_state.proofs.Changing.{pool_stands, found_kept}
+use Rattle.pool_state.proofs.Showing.{Passes, passes_end}
 
 -- a meta file without checksums matches any bytes
 pub header_matches : (bytes : List ℕ) → Matches meta_header bytes
 header_matches bytes = (0, 512, record { whole = lit≤ tt; version = refl; kind_is = refl; step_is = refl; in_range = (lit≤ tt, lit≤ tt, lit≤ tt) }, tt)
+
+-- and so it does where the disks began sound, and where they did not
+pub header_matches_if : (sound : Bool) (bytes : List ℕ) → MatchesIf sound meta_header bytes
+header_matches_if true bytes = header_matches bytes
+header_matches_if false bytes = tt
 
 -- more is known of a step where the disks tell
 pub reaches_told : (id : ℕ) (step other : View → View → Type 0) (old new : Option (List World)) → Reaches id step old new →
@@ -75,12 +85,23 @@ same_told told bytes is = ap (λ t. unwrap_or t []) is
 no_room_wanted : (left : ℕ) → nat_lt left 0 ≡ false
 no_room_wanted left = grind (arith, nat_tests)
 
-finish_step : (stamp left : ℕ) (bytes : List ℕ) (reply : Reply) (after : Cell) → CarriedOut (growing stamp None bytes left) finish reply after →
+pub finish_step : (stamp left : ℕ) (bytes : List ℕ) (reply : Reply) (after : Cell) → CarriedOut (growing stamp None bytes left) finish reply after →
     Step unlimited (growing stamp None bytes left) finish reply after
 finish_step stamp left bytes reply after out = rw (no_room_wanted left) out
 
-module _ {told : Option (List World)} {volumes : ℕ} {entries : ℕ → Option Entry} {cells : Cells} (stands : PoolStands told volumes entries cells)
-    (p : Pair) (bytes : List ℕ) (belongs : PairStands told entries p bytes) where
+pub drop_step : (stamp left : ℕ) (bytes : List ℕ) (reply : Reply) (after : Cell) → CarriedOut (growing stamp None bytes left) drop_write reply after →
+    Step unlimited (growing stamp None bytes left) drop_write reply after
+drop_step stamp left bytes reply after out = rw (no_room_wanted left) out
+
+-- what a block in doubt allows is allowed by the writer's cell, or by that of the new replica
+pub doubt_covers : (stamp left : ℕ) (bytes : List ℕ) (read : Option Replica) → Allows (unsure None (Some (record { stamp = stamp; bytes = bytes })) false) read →
+    Allows (growing stamp None bytes left) read ⊎ Allows (final (record { stamp = stamp; bytes = bytes })) read
+doubt_covers stamp left bytes read (inl first) = inl first
+doubt_covers stamp left bytes read (inr (inl second)) = inr second
+doubt_covers stamp left bytes read (inr (inr gone)) = absurd (false≢true gone.0)
+
+module _ {told : Option (List World)} {volumes : ℕ} {entries : ℕ → Option Entry} {found : ℕ → List Leftover} {sound : Bool} {cells : Cells}
+    (stands : PoolStands told volumes entries found sound cells) (p : Pair) (bytes : List ℕ) (belongs : PairStands told entries p bytes) where
   -- the entry of the writer, to its tenure
   abbrev pub writer : Writer
   writer = record { vol = p.vol; stamp = p.stamp; len = belongs.reserved; rev = 0; block_number = belongs.block_number; meta_number = belongs.meta_number }
@@ -89,8 +110,8 @@ module _ {told : Option (List World)} {volumes : ℕ} {entries : ℕ → Option 
   entry = writers.writer_entry p.id p.stamp p.vol belongs.reserved belongs.block_number belongs.meta_number
 
   -- a block that is written, in a world
-  written_in : (world : World) → IsWorldOf told world → BlockStands Matches (view_of world p.id) (block_books (Some entry) (stands.left p.id)) (cells p.id)
-  written_in world is = subst (λ (e : Option Entry). BlockStands Matches (view_of world p.id) (block_books e (stands.left p.id)) (cells p.id)) belongs.entry
+  written_in : (world : World) → IsWorldOf told world → BlockStands (MatchesIf sound) (view_of world p.id) (block_books (Some entry) (found p.id)) (cells p.id)
+  written_in world is = subst (λ (e : Option Entry). BlockStands (MatchesIf sound) (view_of world p.id) (block_books e (found p.id)) (cells p.id)) belongs.entry
       (stands.blocks world is p.id belongs.valid.0)
 
   -- both drafts stand
@@ -109,100 +130,160 @@ module _ {told : Option (List World)} {volumes : ℕ} {entries : ℕ → Option 
       (subst (λ (v : View). v p.vol writing_block ≡ drafted belongs.block_number) (sym from.stepped) there))
 
   module _ (left : ℕ) (grows : cells p.id ≡ growing p.stamp None bytes left) where
-    own_growing : (view : View) → BlockStands Matches view (block_books (entries p.id) (stands.left p.id)) (cells p.id) →
-        BlockStands Matches view (fresh_books (stands.left p.id) None writer) (growing p.stamp None bytes left)
-    own_growing view own = subst (BlockStands Matches view (fresh_books (stands.left p.id) None writer)) grows
-        (subst (λ (e : Option Entry). BlockStands Matches view (block_books e (stands.left p.id)) (cells p.id)) belongs.entry own)
+    -- the new replica
+    abbrev pub new : Replica
+    new = record { stamp = p.stamp; bytes = bytes }
 
-    placed : (1 ≤ p.vol) × (p.vol ≤ volumes)
-    placed = subst (λ (e : Option Entry). IfSome e (λ x. (1 ≤ x.vol) × (x.vol ≤ volumes))) belongs.entry (stands.placed p.id belongs.valid.0)
+    abbrev pub whole : Entry
+    whole = record { id = p.id; stamp = p.stamp; len = p.len; vol = p.vol; state = Finalised }
 
-    module _ (told' : Option (List World)) (volumes' : ℕ) (entries' : ℕ → Option Entry) (Says : Cell → Type 0) (same_volumes : volumes' ≡ volumes) where
+    own_growing : (view : View) → BlockStands (MatchesIf sound) view (block_books (entries p.id) (found p.id)) (cells p.id) →
+        BlockStands (MatchesIf sound) view (fresh_books (found p.id) None writer) (growing p.stamp None bytes left)
+    own_growing view own = subst (BlockStands (MatchesIf sound) view (fresh_books (found p.id) None writer)) grows
+        (subst (λ (e : Option Entry). BlockStands (MatchesIf sound) view (block_books e (found p.id)) (cells p.id)) belongs.entry own)
+
+    -- the opening found no files of it
+    no_files : found p.id ≡ []
+    no_files = stands.clean p.id belongs.valid.0 (subst IsNotWaiting (sym belongs.entry) tt)
+
+    pub placed : IsVolume volumes p.vol
+    placed = subst (λ (e : Option Entry). IfSome e (λ x. IsVolume volumes x.vol)) belongs.entry (stands.placed p.id belongs.valid.0)
+
+    module _ (step : View → View → Type 0)
+        (ends : (before after : View) → step before after → FinishesFresh before (found p.id) None writer meta_header bytes after
+        (books_of (Some (writer_entry writer (in_doubt None))) (found p.id) None) (unsure None (Some new) false)) where
       -- a publish failed: the block is in doubt
-      pub finish_doubts : (step : View → View → Type 0) → Reaches p.id step told told' →
-          ((other : ℕ) → entries' other ≡ (if other == p.id then option_map (with_state Unsure) (entries p.id) else entries other)) →
-          Says (unsure None (Some (record { stamp = p.stamp; bytes = bytes })) false) →
-          ((before after : View) → step before after → FinishesFresh before (stands.left p.id) None writer meta_header bytes after
-          (books_of (Some (writer_entry writer (in_doubt None))) (stands.left p.id) None) (unsure None (Some (new_replica writer bytes)) false)) →
-          TakesStep p.id finish failed Says cells told' volumes' entries'
-      finish_doubts step reaches changed says ends = record {
-        cell = unsure None (Some (record { stamp = p.stamp; bytes = bytes })) false;
-        step = subst (λ c. Step unlimited c finish failed (unsure None (Some (record { stamp = p.stamp; bytes = bytes })) false)) (sym grows)
-            (finish_step p.stamp left bytes failed (unsure None (Some (record { stamp = p.stamp; bytes = bytes })) false) (inr refl));
-        says = says;
-        stands = pool_stands stands p.id belongs.valid.0 step reaches same_volumes (Some (with_state Unsure entry)) (stands.left p.id)
-            (unsure None (Some (record { stamp = p.stamp; bytes = bytes })) false)
+      doubt_own : (before after : View) → step before after → BlockStands (MatchesIf sound) before (block_books (entries p.id) (found p.id)) (cells p.id) →
+          BlockStands (MatchesIf sound) after (block_books (Some (with_state Unsure entry)) (found p.id)) (unsure None (Some new) false)
+      doubt_own before after stepped own = finish_fresh_stands (MatchesIf sound) before (found p.id) None writer meta_header bytes left after
+          (books_of (Some (writer_entry writer (in_doubt None))) (found p.id) None) (unsure None (Some new) false)
+          (own_growing before own) (header_matches_if sound bytes) (ends before after stepped)
+
+      pub doubt_passes : Passes stands p.id belongs.valid.0 step (unsure None (Some new) false)
+      doubt_passes = passes_end stands p.id belongs.valid.0 step (unsure None (Some new) false) (block_books (Some (with_state Unsure entry)) (found p.id)) doubt_own
+
+      -- on the way to the new replica
+      pub new_passes : Passes stands p.id belongs.valid.0 step (final new)
+      new_passes before after stepped own = (
+        block_books (Some (with_state Unsure entry)) (found p.id),
+        unsure None (Some new) false,
+        doubt_own before after stepped own,
+        λ read allows. subst (λ c. Allows c read ⊎ Allows (final new) read) (sym grows) (doubt_covers p.stamp left bytes read allows),
+      )
+
+      module _ (told' : Option (List World)) (volumes' : ℕ) (entries' : ℕ → Option Entry) (found' : ℕ → List Leftover) (same_volumes : volumes' ≡ volumes)
+          (same_found : (other : ℕ) → found' other ≡ found other) where
+        pub finish_doubts : Reaches p.id step told told' →
+            ((other : ℕ) → entries' other ≡ (if other == p.id then option_map (with_state Unsure) (entries p.id) else entries other)) →
+            PoolStands told' volumes' entries' found' sound (with_cell cells p.id (unsure None (Some new) false))
+        finish_doubts reaches changed = pool_stands stands p.id belongs.valid.0 step reaches same_volumes (Some (with_state Unsure entry)) (found p.id) (unsure None (Some new) false)
             (λ other. changed other ∙ ap (λ (e : Option Entry). if other == p.id then option_map (with_state Unsure) e else entries other) belongs.entry)
-            tt placed (λ e. absurd cc)
-            (λ before after stepped own. finish_fresh_stands Matches before (stands.left p.id) None writer meta_header bytes left after
-            (books_of (Some (writer_entry writer (in_doubt None))) (stands.left p.id) None) (unsure None (Some (new_replica writer bytes)) false)
-            (own_growing before own) (header_matches bytes) (ends before after stepped));
-      }
+            (found_kept p.id found found' same_found) tt placed (stands.found_placed p.id belongs.valid.0) (λ e. no_files) doubt_own
 
-      -- both were done: the block is final
-      pub finish_ends : (step : View → View → Type 0) → Reaches p.id step told told' →
-          ((other : ℕ) → entries' other ≡ (if other == p.id then Some (record { id = p.id; stamp = p.stamp; len = p.len; vol = p.vol; state = Finalised }) else entries other)) →
-          Says (final (record { stamp = p.stamp; bytes = bytes })) →
-          ((before after : View) → step before after → after ≡ both_published before writer meta_header bytes) →
-          TakesStep p.id finish done Says cells told' volumes' entries'
-      finish_ends step reaches changed says ends =
-          let whole : Entry = record { id = p.id; stamp = p.stamp; len = p.len; vol = p.vol; state = Finalised } in
-          record {
-            cell = final (record { stamp = p.stamp; bytes = bytes });
-            step = subst (λ c. Step unlimited c finish done (final (record { stamp = p.stamp; bytes = bytes }))) (sym grows)
-                (finish_step p.stamp left bytes done (final (record { stamp = p.stamp; bytes = bytes })) (refl, refl));
-            says = says;
-            stands = pool_stands stands p.id belongs.valid.0 step reaches same_volumes (Some whole) (stands.left p.id) (final (record { stamp = p.stamp; bytes = bytes }))
-                changed (refl, refl, belongs.len) placed (λ e. absurd cc)
-                (λ before after stepped own.
-                subst (λ n. BlockStands Matches after (block_books (Some (record whole { len = n })) (stands.left p.id)) (final (record { stamp = p.stamp; bytes = bytes }))) (sym belongs.len)
-                (subst (λ v. BlockStands Matches v (books_of (Some (final_entry writer (length bytes))) (stands.left p.id) None) (final (new_replica writer bytes)))
-                (sym (ends before after stepped))
-                (finish_fresh_stands Matches before (stands.left p.id) None writer meta_header bytes left (both_published before writer meta_header bytes)
-                (books_of (Some (final_entry writer (length bytes))) (stands.left p.id) None) (final (new_replica writer bytes))
-                (own_growing before own) (header_matches bytes) finished)));
-          }
+    -- both were done: the block is final
+    module _ (step : View → View → Type 0) (ends : (before after : View) → step before after → after ≡ both_published before writer meta_header bytes) where
+      final_own : (before after : View) → step before after → BlockStands (MatchesIf sound) before (block_books (entries p.id) (found p.id)) (cells p.id) →
+          BlockStands (MatchesIf sound) after (block_books (Some whole) (found p.id)) (final new)
+      final_own before after stepped own =
+          subst (λ n. BlockStands (MatchesIf sound) after (block_books (Some (record whole { len = n })) (found p.id)) (final new)) (sym belongs.len)
+          (subst (λ v. BlockStands (MatchesIf sound) v (books_of (Some (final_entry writer (length bytes))) (found p.id) None) (final (new_replica writer bytes)))
+          (sym (ends before after stepped))
+          (finish_fresh_stands (MatchesIf sound) before (found p.id) None writer meta_header bytes left (both_published before writer meta_header bytes)
+          (books_of (Some (final_entry writer (length bytes))) (found p.id) None) (final (new_replica writer bytes))
+          (own_growing before own) (header_matches_if sound bytes) finished))
 
--- A fresh writer that is given up: its block waits.
-module _ {told : Option (List World)} {volumes : ℕ} {entries entries' : ℕ → Option Entry} {cells : Cells} (stands : PoolStands told volumes entries cells)
-    (id stamp left : ℕ) (bytes : List ℕ) (valid : IsBlockId id) (grows : cells id ≡ growing stamp None bytes left)
-    (changed : (other : ℕ) → entries' other ≡ (if other == id then option_map (with_state Waiting) (entries id) else entries other)) where
-  gives_up : (e : Entry) (b m : ℕ) → e.state ≡ Writing b m → entries id ≡ Some e → PoolStands told volumes entries' (with_cell cells id waiting)
-  gives_up e b m is_written_state has =
-      let w : Writer = record { vol = e.vol; stamp = e.stamp; len = e.len; rev = 0; block_number = b; meta_number = m } in
-      let agrees : Agrees (Some (book_entry e)) (growing stamp None bytes left) =
-      subst (Agrees (Some (book_entry e))) grows (subst (λ (o : Option Entry). Agrees (option_map book_entry o) (cells id)) has (stands.agrees id valid)) in
-      let at_stamp : growing e.stamp None bytes left ≡ growing stamp None bytes left = ap (λ s. growing s None bytes left) agrees.0 in
-      pool_stands stands id valid Stays (reaches_same id told told refl) refl (Some (with_state Waiting e))
-      (block_left w true ∷ meta_left w true ∷ stands.left id) waiting
-      (λ other. changed other ∙ ap (λ (o : Option Entry). if other == id then option_map (with_state Waiting) o else entries other) has)
-      refl (subst (λ (o : Option Entry). IfSome o (λ x. (1 ≤ x.vol) × (x.vol ≤ volumes))) has (stands.placed id valid)) (λ none. absurd cc)
-      (λ before after stepped own. subst (λ v. BlockStands Matches v (block_books (Some (with_state Waiting e)) (block_left w true ∷ meta_left w true ∷ stands.left id)) waiting) (sym stepped)
-      (drop_fresh_stands Matches before (stands.left id) None w bytes left
-      (subst (λ st. BlockStands Matches before (books_of (Some (record { stamp = e.stamp; len = e.len; vol = e.vol; rev = 0; state = entry_state st })) (stands.left id) None) (growing e.stamp None bytes left)) is_written_state
-      (subst (BlockStands Matches before (block_books (Some e) (stands.left id))) (sym at_stamp)
-      (subst (BlockStands Matches before (block_books (Some e) (stands.left id))) grows
-      (subst (λ (o : Option Entry). BlockStands Matches before (block_books o (stands.left id)) (cells id)) has own))))
-      before (block_books (Some (with_state Waiting e)) (block_left w true ∷ meta_left w true ∷ stands.left id)) waiting given_up_by_caller))
+      pub final_passes : Passes stands p.id belongs.valid.0 step (final new)
+      final_passes = passes_end stands p.id belongs.valid.0 step (final new) (block_books (Some whole) (found p.id)) final_own
 
-  by_state : (e : Entry) (state : State) → e.state ≡ state → IsWritingState state → entries id ≡ Some e → PoolStands told volumes entries' (with_cell cells id waiting)
-  by_state e Finalised is writes has = absurd writes
-  by_state e (Writing b m) is writes has = gives_up e b m is has
-  by_state e Unsure is writes has = absurd writes
-  by_state e Waiting is writes has = absurd writes
+      module _ (told' : Option (List World)) (volumes' : ℕ) (entries' : ℕ → Option Entry) (found' : ℕ → List Leftover) (same_volumes : volumes' ≡ volumes)
+          (same_found : (other : ℕ) → found' other ≡ found other) where
+        pub finish_ends : Reaches p.id step told told' →
+            ((other : ℕ) → entries' other ≡ (if other == p.id then Some whole else entries other)) →
+            PoolStands told' volumes' entries' found' sound (with_cell cells p.id (final new))
+        finish_ends reaches changed = pool_stands stands p.id belongs.valid.0 step reaches same_volumes (Some whole) (found p.id) (final new)
+            changed (found_kept p.id found found' same_found) (refl, refl, belongs.len) placed (stands.found_placed p.id belongs.valid.0) (λ e. no_files) final_own
 
-  by_entry : (o : Option Entry) → entries id ≡ o → IsWritten o → PoolStands told volumes entries' (with_cell cells id waiting)
+-- a writer's drafts stand on one of the volumes
+pub writer_placed : {told : Option (List World)} {volumes : ℕ} {entries : ℕ → Option Entry} {found : ℕ → List Leftover} {sound : Bool} {cells : Cells} →
+    PoolStands told volumes entries found sound cells → (w : writers.Writer) (bytes : List ℕ) → writers.WriterStands told entries w bytes → IsVolume volumes w.vol
+writer_placed {volumes = volumes} stands w bytes belongs =
+    subst (λ (o : Option Entry). IfSome o (λ x. IsVolume volumes x.vol)) belongs.entry (stands.placed w.id belongs.valid.0)
+
+-- A fresh writer that is given up, or is being dropped: its block waits, or is absent.
+module _ {told : Option (List World)} {volumes : ℕ} {entries : ℕ → Option Entry} {found : ℕ → List Leftover} {sound : Bool} {cells : Cells}
+    (stands : PoolStands told volumes entries found sound cells)
+    (id stamp left : ℕ) (bytes : List ℕ) (valid : IsBlockId id) (grows : cells id ≡ growing stamp None bytes left) where
+  -- the writer of an entry
+  abbrev pub writer_in : Entry → ℕ → ℕ → Writer
+  writer_in e b m = record { vol = e.vol; stamp = e.stamp; len = e.len; rev = 0; block_number = b; meta_number = m }
+
+  module _ (e : Entry) (b m : ℕ) (is_written_state : e.state ≡ Writing b m) (has : entries id ≡ Some e) where
+    agrees_here : Agrees (Some (book_entry e)) (growing stamp None bytes left)
+    agrees_here = subst (Agrees (Some (book_entry e))) grows (subst (λ (o : Option Entry). Agrees (option_map book_entry o) (cells id)) has (stands.agrees id valid))
+
+    own_written : (view : View) → BlockStands (MatchesIf sound) view (block_books (entries id) (found id)) (cells id) →
+        BlockStands (MatchesIf sound) view (books_of (Some (writer_entry (writer_in e b m) (is_written None b m))) (found id) None) (growing e.stamp None bytes left)
+    own_written view own =
+        let at_stamp : growing e.stamp None bytes left ≡ growing stamp None bytes left = ap (λ s. growing s None bytes left) agrees_here.0 in
+        subst (λ st. BlockStands (MatchesIf sound) view (books_of (Some (record { stamp = e.stamp; len = e.len; vol = e.vol; rev = 0; state = entry_state st })) (left_in e st ++ found id) None) (growing e.stamp None bytes left)) is_written_state
+        (subst (BlockStands (MatchesIf sound) view (block_books (Some e) (found id))) (sym at_stamp)
+        (subst (BlockStands (MatchesIf sound) view (block_books (Some e) (found id))) grows
+        (subst (λ (o : Option Entry). BlockStands (MatchesIf sound) view (block_books o (found id)) (cells id)) has own)))
+
+    pub placed_here : IsVolume volumes e.vol
+    placed_here = subst (λ (o : Option Entry). IfSome o (λ x. IsVolume volumes x.vol)) has (stands.placed id valid)
+
+    module _ (step : View → View → Type 0) (block_left meta_left : Bool)
+        (drops : (before after : View) → step before after → DropsFresh before (found id) None (writer_in e b m) after (block_books (Some (with_state (Waiting block_left meta_left) e)) (found id)) waiting) where
+      waits_own : (before after : View) → step before after → BlockStands (MatchesIf sound) before (block_books (entries id) (found id)) (cells id) →
+          BlockStands (MatchesIf sound) after (block_books (Some (with_state (Waiting block_left meta_left) e)) (found id)) waiting
+      waits_own before after stepped own = drop_fresh_stands (MatchesIf sound) before (found id) None (writer_in e b m) bytes left (own_written before own)
+          after (block_books (Some (with_state (Waiting block_left meta_left) e)) (found id)) waiting (drops before after stepped)
+
+      -- meanwhile nothing is read of it
+      pub dropping_passes : (cell : Cell) → Passes stands id valid step cell
+      dropping_passes cell before after stepped own = (
+        block_books (Some (with_state (Waiting block_left meta_left) e)) (found id),
+        waiting,
+        waits_own before after stepped own,
+        λ read allows. inl (subst (λ c. Allows c read) (sym grows) allows),
+      )
+
+      module _ (told' : Option (List World)) (volumes' : ℕ) (entries' : ℕ → Option Entry) (found' : ℕ → List Leftover) (same_volumes : volumes' ≡ volumes)
+          (same_found : (other : ℕ) → found' other ≡ found other) where
+        pub given_up_stands : Reaches id step told told' →
+            ((other : ℕ) → entries' other ≡ (if other == id then option_map (with_state (Waiting block_left meta_left)) (entries id) else entries other)) →
+            PoolStands told' volumes' entries' found' sound (with_cell cells id waiting)
+        given_up_stands reaches changed = pool_stands stands id valid step reaches same_volumes (Some (with_state (Waiting block_left meta_left) e)) (found id) waiting
+            (λ other. changed other ∙ ap (λ (o : Option Entry). if other == id then option_map (with_state (Waiting block_left meta_left)) o else entries other) has)
+            (found_kept id found found' same_found) refl placed_here (stands.found_placed id valid) (λ waits. absurd waits) waits_own
+
+    -- both drafts are gone: the block is absent
+    module _ (step : View → View → Type 0) (drops : (before after : View) → step before after → after ≡ both_dropped before (writer_in e b m)) where
+      absent_own : (before after : View) → step before after → BlockStands (MatchesIf sound) before (block_books (entries id) (found id)) (cells id) →
+          BlockStands (MatchesIf sound) after (block_books None (found id)) absent
+      absent_own before after stepped own = subst (λ v. BlockStands (MatchesIf sound) v (block_books None (found id)) absent) (sym (drops before after stepped))
+          (drop_fresh_stands (MatchesIf sound) before (found id) None (writer_in e b m) bytes left (own_written before own)
+          (both_dropped before (writer_in e b m)) (block_books None (found id)) absent dropped)
+
+      pub absent_passes : Passes stands id valid step absent
+      absent_passes = passes_end stands id valid step absent (block_books None (found id)) absent_own
+
+      module _ (told' : Option (List World)) (volumes' : ℕ) (entries' : ℕ → Option Entry) (found' : ℕ → List Leftover) (same_volumes : volumes' ≡ volumes)
+          (same_found : (other : ℕ) → found' other ≡ found other) where
+        pub dropped_stands : Reaches id step told told' → ((other : ℕ) → entries' other ≡ (if other == id then None else entries other)) →
+            PoolStands told' volumes' entries' found' sound (with_cell cells id absent)
+        dropped_stands reaches changed = pool_stands stands id valid step reaches same_volumes None (found id) absent changed
+            (found_kept id found found' same_found) tt tt (stands.found_placed id valid)
+            (λ none. stands.clean id valid (subst IsNotWaiting (sym has) (subst IsNoWait (sym is_written_state) tt))) absent_own
+
+  -- the entry of an open writer
+  pub by_state : (e : Entry) (state : State) → e.state ≡ state → IsWritingState state → (b : ℕ) × (m : ℕ) × (e.state ≡ Writing b m)
+  by_state e Finalised is writes = absurd writes
+  by_state e (Writing b m) is writes = (b, m, is)
+  by_state e Unsure is writes = absurd writes
+  by_state e (Waiting l n) is writes = absurd writes
+
+  pub by_entry : (o : Option Entry) → entries id ≡ o → IsWritten o → (e : Entry) × (entries id ≡ Some e) × IsWritingState e.state
   by_entry None has writes = absurd writes
-  by_entry (Some e) has writes = by_state e e.state refl writes has
-
-  pub given_up_stands : IsWritten (entries id) → PoolStands told volumes entries' (with_cell cells id waiting)
-  given_up_stands writes = by_entry (entries id) refl writes
-
-  -- as a step: the finish of a writer whose seal failed
-  pub gives_up_step : IsWritten (entries id) → TakesStep id finish failed (λ cell. cell ≡ waiting) cells told volumes entries'
-  gives_up_step writes = record {
-    cell = waiting;
-    step = subst (λ c. Step unlimited c finish failed waiting) (sym grows) (finish_step stamp left bytes failed waiting (inl refl));
-    says = refl;
-    stands = given_up_stands writes;
-  }
+  by_entry (Some e) has writes = (e, has, writes)

@@ -1,8 +1,12 @@
 pub mod Reaching
 pub mod Changing
+pub mod Showing
 pub mod Starting
 pub mod Pieces
 pub mod Ends
+pub mod Removals
+pub mod QuietRemovals
 pub mod Lending
 pub mod Pushing
 pub mod EmptyDisks
+pub mod Deletions

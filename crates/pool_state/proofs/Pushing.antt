@@ -5,17 +5,18 @@ use Rattle.std.proofs.lemmas.Bool.{cases_eq, eq-eqb, ne_eqb}
 use Rattle.std.proofs.lemmas.Bool.Decides.{nat_tests}
 use Rattle.disk_model.specs.Worlds.{World}
 use Rattle.map_model.specs.Cells.{Cells, growing}
-use Rattle.map_model.specs.Checksums.{Matches}
+use Rattle.map_model.specs.Sound.{MatchesIf}
 use Rattle.map_model.specs.Steps.{Step, push, done}
 use Rattle.map_model.specs.Slots.{View}
 use Rattle.map_model.specs.Stands.{Agrees, BlockStands, Leftover}
 use Rattle.pool_state.specs.declared.entry.Entry.{Entry}
-use Rattle.pool_state.specs.Answers.{unlimited, TakesStep}
+use Rattle.pool_state.specs.Answers.{unlimited, StepsTo}
 use Rattle.pool_state.specs.Books.{book_entry, block_books}
-use Rattle.pool_state.specs.Stands.{PoolStands}
+use Rattle.pool_state.specs.Stands.{IsVolume, IsNotWaiting, PoolStands}
 use Rattle.pool_state.specs.Writers.{Writer, WriterStands, writer_entry}
-use Rattle.pool_state.proofs.Reaching.{Stays, reaches_same}
-use Rattle.pool_state.proofs.Changing.{pool_stands}
+use Rattle.pool_state.specs.Reaching.{Stays}
+use Rattle.pool_state.proofs.Reaching.{reaches_same}
+use Rattle.pool_state.proofs.Changing.{pool_stands, found_kept}
 
 fits : (left n : ℕ) → n ≤ left → nat_lt left n ≡ false
 fits left n within = grind (arith, nat_tests)
@@ -28,10 +29,10 @@ push_step : (stamp left : ℕ) (bytes piece : List ℕ) → length piece ≤ lef
 push_step stamp left bytes piece within = rw (fits left (length piece) within) (refl, rw (at_most left (length piece) within) refl)
 
 -- a growing block's files don't depend on how far it has grown
-grown : (view : View) (entry : Option Entry) (left_files : List Leftover) (stamp left left' : ℕ) (bytes bytes' : List ℕ) →
+grown : (M : List ℕ → List ℕ → Type 0) (view : View) (entry : Option Entry) (left_files : List Leftover) (stamp left left' : ℕ) (bytes bytes' : List ℕ) →
     Agrees (option_map book_entry entry) (growing stamp None bytes' left') →
-    BlockStands Matches view (block_books entry left_files) (growing stamp None bytes left) → BlockStands Matches view (block_books entry left_files) (growing stamp None bytes' left')
-grown view entry left_files stamp left left' bytes bytes' agrees own = record {
+    BlockStands M view (block_books entry left_files) (growing stamp None bytes left) → BlockStands M view (block_books entry left_files) (growing stamp None bytes' left')
+grown M view entry left_files stamp left left' bytes bytes' agrees own = record {
   agrees = agrees;
   content = tt;
   accounted = own.accounted;
@@ -43,11 +44,11 @@ grown view entry left_files stamp left left' bytes bytes' agrees own = record {
   ticket = own.ticket;
 }
 
-pub pushes : (told : Option (List World)) (volumes : ℕ) (entries : ℕ → Option Entry) (cells : Cells) (w : Writer) (bytes piece : List ℕ) (stamp' len' reserved' : ℕ) →
-    PoolStands told volumes entries cells → WriterStands told entries w bytes → cells w.id ≡ growing w.stamp None bytes (w.reserved - w.len) →
+pub pushes : (told : Option (List World)) (volumes : ℕ) (entries : ℕ → Option Entry) (found : ℕ → List Leftover) (cells : Cells) (w : Writer) (bytes piece : List ℕ) (stamp' len' reserved' : ℕ) →
+    WriterStands told entries w bytes → cells w.id ≡ growing w.stamp None bytes (w.reserved - w.len) →
     length piece ≤ w.reserved - w.len → stamp' ≡ w.stamp → len' ≡ w.len + length piece → reserved' ≡ w.reserved →
-    TakesStep w.id (push piece) done (λ cell. cell ≡ growing stamp' None (bytes ++ piece) (reserved' - len')) cells told volumes entries
-pushes told volumes entries cells w bytes piece stamp' len' reserved' stands belongs grows within same_stamp longer same_reserved =
+    StepsTo w.id (push piece) done (λ cell. cell ≡ growing stamp' None (bytes ++ piece) (reserved' - len')) cells (PoolStands told volumes entries found) (PoolStands told volumes entries found)
+pushes told volumes entries found cells w bytes piece stamp' len' reserved' belongs grows within same_stamp longer same_reserved =
     let rest : (w.reserved - w.len) - length piece ≡ reserved' - len' = omega (arith, within, longer, same_reserved) in
     let entry : Entry = writer_entry w.id w.stamp w.vol w.reserved belongs.block_number belongs.meta_number in
     let agrees : Agrees (Some (book_entry entry)) (growing w.stamp None (bytes ++ piece) ((w.reserved - w.len) - length piece)) =
@@ -57,15 +58,17 @@ pushes told volumes entries cells w bytes piece stamp' len' reserved' stands bel
       step = subst (λ c. Step unlimited c (push piece) done (growing w.stamp None (bytes ++ piece) ((w.reserved - w.len) - length piece))) (sym grows)
           (push_step w.stamp (w.reserved - w.len) bytes piece within);
       says = ap (λ n. growing w.stamp None (bytes ++ piece) n) rest ∙ ap (λ s. growing s None (bytes ++ piece) (reserved' - len')) (sym same_stamp);
-      stands = pool_stands stands w.id belongs.valid.0 Stays (reaches_same w.id told told refl) refl (Some entry) (stands.left w.id)
+      stands = λ sound stands. pool_stands stands w.id belongs.valid.0 Stays (reaches_same w.id told told refl) refl (Some entry) (found w.id)
           (growing w.stamp None (bytes ++ piece) ((w.reserved - w.len) - length piece))
           (λ other. elim (cases_eq other w.id) [
             | inl same ↦ rw (eq-eqb other w.id same) (ap entries same ∙ belongs.entry)
             | inr apart ↦ rw (ne_eqb other w.id apart) refl
           ])
-          agrees (subst (λ (e : Option Entry). IfSome e (λ x. (1 ≤ x.vol) × (x.vol ≤ volumes))) belongs.entry (stands.placed w.id belongs.valid.0)) (λ none. absurd cc)
-          (λ before after stepped own. subst (λ v. BlockStands Matches v (block_books (Some entry) (stands.left w.id)) (growing w.stamp None (bytes ++ piece) ((w.reserved - w.len) - length piece))) (sym stepped)
-          (grown before (Some entry) (stands.left w.id) w.stamp (w.reserved - w.len) ((w.reserved - w.len) - length piece) bytes (bytes ++ piece) agrees
-          (subst (BlockStands Matches before (block_books (Some entry) (stands.left w.id))) grows
-          (subst (λ (e : Option Entry). BlockStands Matches before (block_books e (stands.left w.id)) (cells w.id)) belongs.entry own))));
+          (found_kept w.id found found (λ other. refl))
+          agrees (subst (λ (e : Option Entry). IfSome e (λ x. IsVolume volumes x.vol)) belongs.entry (stands.placed w.id belongs.valid.0))
+          (stands.found_placed w.id belongs.valid.0) (λ waits_not. stands.clean w.id belongs.valid.0 (subst IsNotWaiting (sym belongs.entry) tt))
+          (λ before after stepped own. subst (λ v. BlockStands (MatchesIf sound) v (block_books (Some entry) (found w.id)) (growing w.stamp None (bytes ++ piece) ((w.reserved - w.len) - length piece))) (sym stepped)
+          (grown (MatchesIf sound) before (Some entry) (found w.id) w.stamp (w.reserved - w.len) ((w.reserved - w.len) - length piece) bytes (bytes ++ piece) agrees
+          (subst (BlockStands (MatchesIf sound) before (block_books (Some entry) (found w.id))) grows
+          (subst (λ (e : Option Entry). BlockStands (MatchesIf sound) before (block_books e (found w.id)) (cells w.id)) belongs.entry own))));
     }

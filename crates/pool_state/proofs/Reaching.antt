@@ -1,34 +1,15 @@
 -- What a tenure's calls do with one block, in every world: the block's files change by a step, those of other blocks stay.
 use Rattle.std.proofs.Common.{◌≡◌, ◌≢◌, inl, inr, ℕ, List, Option, refl, sym, ◌∙◌, subst, IsTrue, true}
-use Rattle.disk_model.specs.Worlds.{World, draft_at, created, published}
-use Rattle.disk_model.specs.Told.{IsWorldOf, InEachWorld, PicksOne, StandsBeforeOrAfter}
+use Rattle.disk_model.specs.Worlds.{World, draft_at, created, published, removed}
+use Rattle.disk_model.specs.Told.{IsWorldOf, PicksOne, StandsBeforeOrAfter}
 use Rattle.disk_model.proofs.Laws.{from_done}
 use Rattle.volume_layout.specs.Paths.{IsBlockId}
 use Rattle.map_model.specs.World.{DraftsAside}
-use Rattle.map_model.specs.Slots.{File, is_file, is_aside_file, path_of, View, view_of, create_in, publish_in}
+use Rattle.map_model.specs.Slots.{File, is_file, is_aside_file, path_of, View, view_of, create_in, publish_in, remove_in}
 use Rattle.map_model.specs.Tenures.{Fails}
-use Rattle.map_model.proofs.Bridge.{view_created, view_published, other_created, other_published}
-use Rattle.map_model.proofs.Aside.{aside_created_file, aside_published}
-
--- a world comes from one of these, in which only the block's files changed
-pub record ComesFrom (id : ℕ) (step : View → View → Type 0) (old : Option (List World)) (world : World) : Type 0 where
-  pub was : World
-  pub is : IsWorldOf old was
-  pub stepped : step (view_of was id) (view_of world id)
-  pub others : (other : ℕ) → IsBlockId other → id ≢ other → view_of world other ≡ view_of was other
-  pub aside : DraftsAside was → DraftsAside world
-
--- each world after the calls comes from one before them
-pub record Reaches (id : ℕ) (step : View → View → Type 0) (old new : Option (List World)) : Type 0 where
-  pub each : InEachWorld new (ComesFrom id step old)
-
--- nothing changes
-abbrev pub Stays : View → View → Type 0
-Stays before after = after ≡ before
-
--- one step after another
-abbrev pub Then : (View → View → Type 0) → (View → View → Type 0) → View → View → Type 0
-Then one two before after = (between : View) × one before between × two between after
+use Rattle.pool_state.specs.Reaching.{ComesFrom, Reaches, Stays, Then}
+use Rattle.map_model.proofs.Bridge.{view_created, view_published, view_removed, other_created, other_published, other_removed}
+use Rattle.map_model.proofs.Aside.{aside_created_file, aside_published, aside_removed}
 
 comes_same : (id : ℕ) (old : Option (List World)) (world : World) → IsWorldOf old world → ComesFrom id Stays old world
 comes_same id old world is = record { was = world; is = is; stepped = refl; others = λ other valid apart. refl; aside = λ aside. aside }
@@ -141,6 +122,24 @@ module _ (id vol : ℕ) (from target : File) (number : ℕ) (bytes : List ℕ) (
       (λ world. view_published id vol from target valid is_from is_target world number bytes)
       (λ other valid_other apart world. other_published id other vol from target valid valid_other apart is_from is_target world number bytes)
       (λ world. aside_published (draft_at number vol (path_of id from)) bytes (path_of id target) world)
+
+module _ (id vol : ℕ) (f : File) (valid : IsBlockId id) (is : IsTrue (is_file f)) (path : List ℕ) (same : path ≡ path_of id f) (old new : Option (List World)) where
+  -- a removal of one of the block's files that was done
+  pub reaches_removed_at : {HasAnswer : World → Type 0} → PicksOne HasAnswer (removed vol path) old new →
+      Reaches id (λ before after. after ≡ remove_in before vol f) old new
+  reaches_removed_at {HasAnswer} call = done id (removed vol (path_of id f)) (λ before. remove_in before vol f) old new
+      (λ world. view_removed id vol f valid is world)
+      (λ other valid_other apart world. other_removed id other vol f valid valid_other apart is world)
+      (λ world. aside_removed vol (path_of id f) world)
+      (subst (λ p. PicksOne HasAnswer (removed vol p) old new) same call)
+
+  -- one that failed
+  pub reaches_remove_at : StandsBeforeOrAfter (removed vol path) old new → Reaches id (λ before after. Fails before (remove_in before vol f) after) old new
+  reaches_remove_at call = any id (removed vol (path_of id f)) (λ before. remove_in before vol f) old new
+      (λ world. view_removed id vol f valid is world)
+      (λ other valid_other apart world. other_removed id other vol f valid valid_other apart is world)
+      (λ world. aside_removed vol (path_of id f) world)
+      (subst (λ p. StandsBeforeOrAfter (removed vol p) old new) same call)
 
 -- the same at a path's text
 module _ (id vol : ℕ) (f : File) (number : ℕ) (valid : IsBlockId id) (is : IsTrue (is_file f)) (stands_aside : is_aside_file f ≡ true) (path : List ℕ) (same : path ≡ path_of id f)

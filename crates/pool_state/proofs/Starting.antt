@@ -1,5 +1,5 @@
 -- What the start of a fresh write leaves, at each of its exits.
-use Rattle.std.proofs.Common.{◌≡◌, ◌<◌, ◌≤◌, ◌^◌, inl, inr, ℕ, ◌==◌, if◌then◌else◌, List, [], Option, None, Some, refl, sym, ◌∙◌, ap, subst, arith, IsFalse, IsTrue, option_map}
+use Rattle.std.proofs.Common.{◌≡◌, ◌<◌, ◌≤◌, ◌^◌, inl, inr, ℕ, ◌==◌, if◌then◌else◌, List, [], Option, None, Some, refl, sym, ◌∙◌, ap, subst, arith, Bool, IsFalse, IsTrue, option_map}
 use Rattle.std.proofs.lemmas.Bool.{cases_eq, eq-eqb, ne_eqb, cases_Bool}
 use Rattle.std.proofs.lemmas.Bool.Decides.{nat_tests}
 use mathlib.Core.Path.{fun_ext}
@@ -7,7 +7,7 @@ use Rattle.disk_model.specs.Worlds.{World}
 use Rattle.disk_model.specs.Told.{NoDraftAt}
 use Rattle.volume_layout.specs.Paths.{IsBlockId, IsStamp}
 use Rattle.map_model.specs.Cells.{Cell, Cells, absent, final, growing, unsure, waiting}
-use Rattle.map_model.specs.Checksums.{Matches}
+use Rattle.map_model.specs.Sound.{MatchesIf}
 use Rattle.map_model.specs.Steps.{Step, start_write, write_refusal, Reply, failed, memory, done}
 use Rattle.map_model.specs.Slots.{File, writing_block, writing_meta, is_file, is_standing, path_of, View, view_of, create_in}
 use Rattle.map_model.specs.Stands.{Agrees, WritesOver, IsInDoubt, is_final, is_waiting, BlockStands, Leftover}
@@ -19,11 +19,13 @@ use Rattle.pool_state.specs.declared.entry.State.{State}
 use Rattle.pool_state.specs.declared.entry.State.TheVariants.{Finalised, Writing, Unsure, Waiting}
 use Rattle.pool_state.specs.declared.start_fault.StartFault.{StartFault}
 use Rattle.pool_state.specs.declared.start_fault.StartFault.TheVariants.{Exists, Writing as RefusedWriting, Waiting as RefusedWaiting, Unsure as RefusedUnsure, Failed, Memory}
-use Rattle.pool_state.specs.Answers.{unlimited, start_fault, write_fault, TakesStep}
+use Rattle.map_model.specs.Allows.{Allows}
+use Rattle.pool_state.specs.Answers.{unlimited, start_fault, write_fault}
 use Rattle.pool_state.specs.Books.{entry_state, book_entry, block_books}
-use Rattle.pool_state.specs.Stands.{with_cell, PoolStands}
-use Rattle.pool_state.proofs.Reaching.{Reaches, ComesFrom, Then}
-use Rattle.pool_state.proofs.Changing.{pool_stands}
+use Rattle.pool_state.specs.Stands.{with_cell, IsNotWaiting, PoolStands}
+use Rattle.pool_state.specs.Reaching.{Reaches, ComesFrom, Then}
+use Rattle.pool_state.proofs.Changing.{pool_stands, found_kept}
+use Rattle.pool_state.proofs.Showing.{Passes, passes_end}
 
 -- a cell that is put back
 pub with_cell-same : (cells : Cells) (id : ℕ) → with_cell cells id (cells id) ≡ cells
@@ -32,15 +34,16 @@ with_cell-same cells id = fun_ext (λ other. elim (cases_eq other id) [
   | inr apart ↦ rw (ne_eqb other id apart) refl
 ])
 
--- where neither the disks' worlds nor the entries changed
-pub stands_same : (told told' : Option (List World)) (volumes volumes' : ℕ) (entries entries' : ℕ → Option Entry) (cells : Cells) (id : ℕ) →
-    PoolStands told volumes entries cells → told' ≡ told → volumes' ≡ volumes → ((other : ℕ) → entries' other ≡ entries other) →
-    PoolStands told' volumes' entries' (with_cell cells id (cells id))
-stands_same told told' volumes volumes' entries entries' cells id stands told_is volumes_is entries_are =
-    subst (λ t. PoolStands t volumes' entries' (with_cell cells id (cells id))) (sym told_is)
-    (subst (λ n. PoolStands told n entries' (with_cell cells id (cells id))) (sym volumes_is)
-    (subst (λ es. PoolStands told volumes es (with_cell cells id (cells id))) (sym (fun_ext entries_are))
-    (subst (PoolStands told volumes entries) (sym (with_cell-same cells id)) stands)))
+-- where neither the disks' worlds nor the books changed
+pub stands_same : (told told' : Option (List World)) (volumes volumes' : ℕ) (entries entries' : ℕ → Option Entry) (found found' : ℕ → List Leftover) (sound : Bool) (cells : Cells) (id : ℕ) →
+    PoolStands told volumes entries found sound cells → told' ≡ told → volumes' ≡ volumes → ((other : ℕ) → entries' other ≡ entries other) → ((other : ℕ) → found' other ≡ found other) →
+    PoolStands told' volumes' entries' found' sound (with_cell cells id (cells id))
+stands_same told told' volumes volumes' entries entries' found found' sound cells id stands told_is volumes_is entries_are found_is =
+    subst (λ t. PoolStands t volumes' entries' found' sound (with_cell cells id (cells id))) (sym told_is)
+    (subst (λ n. PoolStands told n entries' found' sound (with_cell cells id (cells id))) (sym volumes_is)
+    (subst (λ es. PoolStands told volumes es found' sound (with_cell cells id (cells id))) (sym (fun_ext entries_are))
+    (subst (λ fs. PoolStands told volumes entries fs sound (with_cell cells id (cells id))) (sym (fun_ext found_is))
+    (subst (PoolStands told volumes entries found sound) (sym (with_cell-same cells id)) stands))))
 
 -- no entry means absent
 pub absent_cell : (cell : Cell) → Agrees None cell → cell ≡ absent
@@ -54,25 +57,25 @@ final_refused : (state : State) → entry_state state ≡ is_final → write_fau
 final_refused Finalised same = refl
 final_refused (Writing block meta) same = absurd cc
 final_refused Unsure same = absurd cc
-final_refused Waiting same = absurd cc
+final_refused (Waiting l m) same = absurd cc
 
 growing_refused : (state : State) (stamp : ℕ) (base : _) → WritesOver (entry_state state) base stamp → write_fault state ≡ RefusedWriting
 growing_refused Finalised stamp base over = absurd over
 growing_refused (Writing block meta) stamp base over = refl
 growing_refused Unsure stamp base over = absurd over
-growing_refused Waiting stamp base over = absurd over
+growing_refused (Waiting l m) stamp base over = absurd over
 
 unsure_refused : (state : State) → IsInDoubt (entry_state state) → write_fault state ≡ RefusedUnsure
 unsure_refused Finalised doubt = absurd doubt
 unsure_refused (Writing block meta) doubt = absurd doubt
 unsure_refused Unsure doubt = refl
-unsure_refused Waiting doubt = absurd doubt
+unsure_refused (Waiting l m) doubt = absurd doubt
 
 waiting_refused : (state : State) → entry_state state ≡ is_waiting → write_fault state ≡ RefusedWaiting
 waiting_refused Finalised same = absurd cc
 waiting_refused (Writing block meta) same = absurd cc
 waiting_refused Unsure same = absurd cc
-waiting_refused Waiting same = refl
+waiting_refused (Waiting l m) same = refl
 
 -- the answer to the start of a block that has an entry is the cell's refusal
 refused_step : (cell : Cell) (entry : Entry) (stamp need : ℕ) → Agrees (Some (book_entry entry)) cell →
@@ -87,7 +90,7 @@ pub no_failure : (state : State) → (write_fault state ≡ Failed → ⊥) × (
 no_failure Finalised = (λ same. cc, λ same. cc)
 no_failure (Writing block meta) = (λ same. cc, λ same. cc)
 no_failure Unsure = (λ same. cc, λ same. cc)
-no_failure Waiting = (λ same. cc, λ same. cc)
+no_failure (Waiting l m) = (λ same. cc, λ same. cc)
 
 -- no length is refused
 no_refusal : (need : ℕ) → need < 2 ^ 64 → write_refusal unlimited absent need ≡ None
@@ -105,39 +108,35 @@ starter stamp need vol b m = record { vol = vol; stamp = stamp; len = need; rev 
 abbrev pub entry_in : (id stamp need vol : ℕ) → State → Entry
 entry_in id stamp need vol state = record { id = id; stamp = stamp; len = need; vol = vol; state = state }
 
-module _ {told : Option (List World)} {volumes : ℕ} {entries : ℕ → Option Entry} {cells : Cells} (stands : PoolStands told volumes entries cells)
+module _ {told : Option (List World)} {volumes : ℕ} {entries : ℕ → Option Entry} {cells : Cells} {found : ℕ → List Leftover} {sound : Bool} (stands : PoolStands told volumes entries found sound cells)
     (id : ℕ) (valid : IsBlockId id) where
-  -- a block that has an entry is refused
-  pub start_refused : (entry : Entry) (stamp need : ℕ) (fault : StartFault) (Says : Cell → Type 0) → entries id ≡ Some entry → fault ≡ write_fault entry.state →
-      ((fault ≡ Failed → ⊥) → (fault ≡ Memory → ⊥) → Says (cells id)) →
-      TakesStep id (start_write stamp need) (start_fault fault) Says cells told volumes entries
-  start_refused entry stamp need fault Says has is says = record {
-    cell = cells id;
-    step = subst (λ f. Step unlimited (cells id) (start_write stamp need) (start_fault f) (cells id)) (sym is)
-        (refused_step (cells id) entry stamp need (subst (λ (e : Option Entry). Agrees (option_map book_entry e) (cells id)) has (stands.agrees id valid)));
-    says = says (λ e. (no_failure entry.state).0 (sym is ∙ e)) (λ e. (no_failure entry.state).1 (sym is ∙ e));
-    stands = stands_same told told volumes volumes entries entries cells id stands refl refl (λ other. refl);
-  }
-
-  -- the refusal of a block that has an entry
-  pub refused_here : (entry : Entry) (stamp need : ℕ) (fault : StartFault) → entries id ≡ Some entry → fault ≡ write_fault entry.state →
+  -- the answer to a block that has an entry
+  pub start_refused : (entry : Entry) (stamp need : ℕ) (fault : StartFault) → entries id ≡ Some entry → fault ≡ write_fault entry.state →
       Step unlimited (cells id) (start_write stamp need) (start_fault fault) (cells id)
-  refused_here entry stamp need fault has is =
+  start_refused entry stamp need fault has is =
       subst (λ f. Step unlimited (cells id) (start_write stamp need) (start_fault f) (cells id)) (sym is)
       (refused_step (cells id) entry stamp need (subst (λ (e : Option Entry). Agrees (option_map book_entry e) (cells id)) has (stands.agrees id valid)))
 
+  -- which is neither a failure nor want of memory
+  pub refused_so : (entry : Entry) (fault : StartFault) → fault ≡ write_fault entry.state → (fault ≡ Failed → ⊥) × (fault ≡ Memory → ⊥)
+  refused_so entry fault is = (λ e. (no_failure entry.state).0 (sym is ∙ e), λ e. (no_failure entry.state).1 (sym is ∙ e))
+
   module _ (none : entries id ≡ None) where
+    -- nor did the opening find files of it
+    pub no_files : found id ≡ []
+    no_files = stands.clean id valid (subst IsNotWaiting (sym none) tt)
+
     pub is_absent : cells id ≡ absent
     is_absent = absent_cell (cells id) (subst (λ (e : Option Entry). Agrees (option_map book_entry e) (cells id)) none (stands.agrees id valid))
 
     -- the block's files in a world are those of an absent one
-    pub own_absent : (view : View) → BlockStands Matches view (block_books (entries id) (stands.left id)) (cells id) → BlockStands Matches view (books_of None [] None) absent
+    pub own_absent : (view : View) → BlockStands (MatchesIf sound) view (block_books (entries id) (found id)) (cells id) → BlockStands (MatchesIf sound) view (books_of None [] None) absent
     own_absent view own =
-        subst (BlockStands Matches view (books_of None [] None)) is_absent
-        (subst (λ left. BlockStands Matches view (block_books None left) (cells id)) (stands.clean id valid none)
-        (subst (λ (e : Option Entry). BlockStands Matches view (block_books e (stands.left id)) (cells id)) none own))
+        subst (BlockStands (MatchesIf sound) view (books_of None [] None)) is_absent
+        (subst (λ left. BlockStands (MatchesIf sound) view (block_books None left) (cells id)) no_files
+        (subst (λ (e : Option Entry). BlockStands (MatchesIf sound) view (block_books e (found id)) (cells id)) none own))
 
-    bare : (view : View) → BlockStands Matches view (books_of None [] None) absent → (vol : ℕ) (f : File) → IsFalse (is_standing (view vol f))
+    bare : (view : View) → BlockStands (MatchesIf sound) view (books_of None [] None) absent → (vol : ℕ) (f : File) → IsFalse (is_standing (view vol f))
     bare view own vol f = elim (cases_Bool (is_standing (view vol f))) [
       | inl stands_there ↦ elim (own.accounted vol f stands_there) [
         | inl (inl names) ↦ absurd names
@@ -164,50 +163,64 @@ module _ {told : Option (List World)} {volumes : ℕ} {entries : ℕ → Option 
     pub memory_step : (stamp need : ℕ) → need < 2 ^ 64 → Step unlimited (cells id) (start_write stamp need) memory (cells id)
     memory_step stamp need fits = subst (λ c. Step unlimited c (start_write stamp need) memory c) (sym is_absent) (absent_step need stamp memory absent fits (inl refl))
 
-    -- want of memory before any create
-    pub start_wants : (stamp need : ℕ) (Says : Cell → Type 0) (told' : Option (List World)) (volumes' : ℕ) (entries' : ℕ → Option Entry) → need < 2 ^ 64 →
-        told' ≡ told → volumes' ≡ volumes → ((other : ℕ) → entries' other ≡ entries other) → Says (cells id) →
-        TakesStep id (start_write stamp need) memory Says cells told' volumes' entries'
-    start_wants stamp need Says told' volumes' entries' fits told_is volumes_is entries_are says = record {
-      cell = cells id;
-      step = subst (λ c. Step unlimited c (start_write stamp need) memory c) (sym is_absent) (absent_step need stamp memory absent fits (inl refl));
-      says = says;
-      stands = stands_same told told' volumes volumes' entries entries' cells id stands told_is volumes_is entries_are;
-    }
+    -- a start that is not refused
+    pub step_of : (stamp need : ℕ) (reply : Reply) (after : Cell) → need < 2 ^ 64 → Rattle.map_model.specs.Steps.CarriedOut absent (start_write stamp need) reply after →
+        Step unlimited (cells id) (start_write stamp need) reply after
+    step_of stamp need reply after fits out = subst (λ c. Step unlimited c (start_write stamp need) reply after) (sym is_absent) (absent_step need stamp reply after fits out)
 
-    module _ (stamp need vol : ℕ) (stamped : IsStamp stamp) (fits : need < 2 ^ 64) (first : 1 ≤ vol) (within : vol ≤ volumes) where
-      module _ (told' : Option (List World)) (volumes' : ℕ) (entries' : ℕ → Option Entry) (Says : Cell → Type 0) (same_volumes : volumes' ≡ volumes) where
+    module _ (stamp need vol : ℕ) (stamped : IsStamp stamp) (first : 1 ≤ vol) (within : vol ≤ volumes) where
+      -- what a start that failed leaves of the block's files
+      pub waits_own : (step : View → View → Type 0) (block_left meta_left : Bool) (b m : ℕ) →
+          ((before after : View) → step before after → StartsWrite before None (starter stamp need vol b m) after (block_books (Some (entry_in id stamp need vol (Waiting block_left meta_left))) []) waiting) →
+          (before after : View) → step before after → BlockStands (MatchesIf sound) before (block_books (entries id) (found id)) (cells id) →
+          BlockStands (MatchesIf sound) after (block_books (Some (entry_in id stamp need vol (Waiting block_left meta_left))) (found id)) waiting
+      waits_own step block_left meta_left b m starts before after stepped own =
+          subst (λ l. BlockStands (MatchesIf sound) after (block_books (Some (entry_in id stamp need vol (Waiting block_left meta_left))) l) waiting) (sym no_files)
+          (start_write_stands (MatchesIf sound) before None (starter stamp need vol b m) after (block_books (Some (entry_in id stamp need vol (Waiting block_left meta_left))) []) waiting
+          (own_absent before own) stamped tt (starts before after stepped))
+
+      -- meanwhile nothing is read of it
+      pub waits_passes : (step : View → View → Type 0) (block_left meta_left : Bool) (b m : ℕ) (cell : Cell) →
+          ((before after : View) → step before after → StartsWrite before None (starter stamp need vol b m) after (block_books (Some (entry_in id stamp need vol (Waiting block_left meta_left))) []) waiting) →
+          Passes stands id valid step cell
+      waits_passes step block_left meta_left b m cell starts before after stepped own = (
+        block_books (Some (entry_in id stamp need vol (Waiting block_left meta_left))) (found id),
+        waiting,
+        waits_own step block_left meta_left b m starts before after stepped own,
+        λ read allows. inl (subst (λ c. Allows c read) (sym is_absent) allows),
+      )
+
+      module _ (told' : Option (List World)) (volumes' : ℕ) (entries' : ℕ → Option Entry) (found' : ℕ → List Leftover) (same_volumes : volumes' ≡ volumes)
+          (same_found : (other : ℕ) → found' other ≡ found other) where
         -- a create failed, or found no memory: the block waits
-        pub start_waits : (answer : Reply) (step : View → View → Type 0) (left : List Leftover) (b m : ℕ) → Reaches id step told told' →
-            ((other : ℕ) → entries' other ≡ (if other == id then Some (entry_in id stamp need vol Waiting) else entries other)) →
-            (Rattle.map_model.specs.Steps.CarriedOut absent (start_write stamp need) answer waiting) → Says waiting →
-            ((before after : View) → step before after → StartsWrite before None (starter stamp need vol b m) after (block_books (Some (entry_in id stamp need vol Waiting)) left) waiting) →
-            TakesStep id (start_write stamp need) answer Says cells told' volumes' entries'
-        start_waits answer step left b m reaches changed out says starts = record {
-          cell = waiting;
-          step = subst (λ c. Step unlimited c (start_write stamp need) answer waiting) (sym is_absent) (absent_step need stamp answer waiting fits out);
-          says = says;
-          stands = pool_stands stands id valid step reaches same_volumes (Some (entry_in id stamp need vol Waiting)) left waiting changed refl (first, within) (λ e. absurd cc)
-              (λ before after stepped own. start_write_stands Matches before None (starter stamp need vol b m) after (block_books (Some (entry_in id stamp need vol Waiting)) left) waiting
-              (own_absent before own) stamped tt (starts before after stepped));
-        }
+        pub start_waits : (step : View → View → Type 0) (block_left meta_left : Bool) (b m : ℕ) → Reaches id step told told' →
+            ((other : ℕ) → entries' other ≡ (if other == id then Some (entry_in id stamp need vol (Waiting block_left meta_left)) else entries other)) →
+            ((before after : View) → step before after → StartsWrite before None (starter stamp need vol b m) after (block_books (Some (entry_in id stamp need vol (Waiting block_left meta_left))) []) waiting) →
+            PoolStands told' volumes' entries' found' sound (with_cell cells id waiting)
+        start_waits step block_left meta_left b m reaches changed starts =
+            pool_stands stands id valid step reaches same_volumes (Some (entry_in id stamp need vol (Waiting block_left meta_left))) (found id) waiting changed
+            (found_kept id found found' same_found) refl (first, within) (stands.found_placed id valid) (λ e. absurd e) (waits_own step block_left meta_left b m starts)
 
         -- both drafts stand: the block grows
+        grows_own : (b m : ℕ) (before after : View) →
+            Then (λ v w. w ≡ create_in v vol writing_block b) (λ v w. w ≡ create_in v vol (writing_meta stamp) m) before after →
+            BlockStands (MatchesIf sound) before (block_books (entries id) (found id)) (cells id) →
+            BlockStands (MatchesIf sound) after (block_books (Some (entry_in id stamp need vol (Writing b m))) (found id)) (growing stamp None [] need)
+        grows_own b m before after stepped own =
+            subst (λ l. BlockStands (MatchesIf sound) after (block_books (Some (entry_in id stamp need vol (Writing b m))) l) (growing stamp None [] need)) (sym no_files)
+            (subst (λ v. BlockStands (MatchesIf sound) v (block_books (Some (entry_in id stamp need vol (Writing b m))) []) (growing stamp None [] need))
+            (sym (stepped.2 ∙ ap (λ v. create_in v vol (writing_meta stamp) m) stepped.1))
+            (start_write_stands (MatchesIf sound) before None (starter stamp need vol b m) (both_created before (starter stamp need vol b m)) (block_books (Some (entry_in id stamp need vol (Writing b m))) [])
+            (growing stamp None [] need) (own_absent before own) stamped tt started))
+
         pub start_grows : (b m : ℕ) → Reaches id (Then (λ before after. after ≡ create_in before vol writing_block b) (λ before after. after ≡ create_in before vol (writing_meta stamp) m)) told told' →
             ((other : ℕ) → entries' other ≡ (if other == id then Some (entry_in id stamp need vol (Writing b m)) else entries other)) →
-            Says (growing stamp None [] need) →
-            TakesStep id (start_write stamp need) done Says cells told' volumes' entries'
-        start_grows b m reaches changed says =
-            let step : View → View → Type 0 = Then (λ before after. after ≡ create_in before vol writing_block b) (λ before after. after ≡ create_in before vol (writing_meta stamp) m) in
-            record {
-              cell = growing stamp None [] need;
-              step = subst (λ c. Step unlimited c (start_write stamp need) done (growing stamp None [] need)) (sym is_absent)
-                  (absent_step need stamp done (growing stamp None [] need) fits (refl, refl));
-              says = says;
-              stands = pool_stands stands id valid step reaches same_volumes (Some (entry_in id stamp need vol (Writing b m))) [] (growing stamp None [] need) changed
-                  (refl, omega arith, tt) (first, within) (λ e. refl)
-                  (λ before after stepped own. subst (λ v. BlockStands Matches v (block_books (Some (entry_in id stamp need vol (Writing b m))) []) (growing stamp None [] need))
-                  (sym (stepped.2 ∙ ap (λ v. create_in v vol (writing_meta stamp) m) stepped.1))
-                  (start_write_stands Matches before None (starter stamp need vol b m) (both_created before (starter stamp need vol b m)) (block_books (Some (entry_in id stamp need vol (Writing b m))) [])
-                  (growing stamp None [] need) (own_absent before own) stamped tt started));
-            }
+            PoolStands told' volumes' entries' found' sound (with_cell cells id (growing stamp None [] need))
+        start_grows b m reaches changed =
+            pool_stands stands id valid (Then (λ before after. after ≡ create_in before vol writing_block b) (λ before after. after ≡ create_in before vol (writing_meta stamp) m)) reaches
+            same_volumes (Some (entry_in id stamp need vol (Writing b m))) (found id) (growing stamp None [] need) changed
+            (found_kept id found found' same_found) (refl, omega arith, tt) (first, within) (stands.found_placed id valid) (λ e. no_files) (grows_own b m)
+
+        pub grows_passes : (b m : ℕ) → Passes stands id valid (Then (λ before after. after ≡ create_in before vol writing_block b) (λ before after. after ≡ create_in before vol (writing_meta stamp) m)) (growing stamp None [] need)
+        grows_passes b m = passes_end stands id valid (Then (λ before after. after ≡ create_in before vol writing_block b) (λ before after. after ≡ create_in before vol (writing_meta stamp) m))
+            (growing stamp None [] need) (block_books (Some (entry_in id stamp need vol (Writing b m))) (found id)) (grows_own b m)

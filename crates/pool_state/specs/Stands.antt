@@ -1,31 +1,48 @@
 -- When a pool stands for cells.
-use Rattle.std.specs.Prelude.{ℕ, ◌≡◌, ◌≤◌, ◌==◌, if◌then◌else◌, IsFalse, List, [], Option, None, IfSome, IsSome, ◌↔◌, option_map}
+use Rattle.std.specs.Prelude.{ℕ, ◌≡◌, ◌≤◌, ◌==◌, if◌then◌else◌, Bool, false, IsFalse, List, [], Option, None, Some, IfSome, IsSome, ◌↔◌, option_map}
 use Rattle.disk_model.specs.Worlds.{World}
 use Rattle.disk_model.specs.Told.{InEachWorld}
 use Rattle.volume_layout.specs.Paths.{IsBlockId}
 use Rattle.map_model.specs.World.{DraftsAside}
-use Rattle.map_model.specs.Checksums.{Matches}
+use Rattle.map_model.specs.Sound.{MatchesIf}
 use Rattle.map_model.specs.Cells.{Cell, Cells}
 use Rattle.map_model.specs.Slots.{File, is_standing, view_of}
-use Rattle.map_model.specs.Stands.{Agrees, Leftover, BlockStands}
+use Rattle.map_model.specs.Stands.{Agrees, Leftover, Each, BlockStands}
 use Rattle.pool_state.specs.declared.entry.Entry.{Entry}
+use Rattle.pool_state.specs.declared.entry.State.{State}
+use Rattle.pool_state.specs.declared.entry.State.TheVariants.{Finalised, Writing, Unsure, Waiting}
 use Rattle.pool_state.specs.declared.pool_record.Pool.{Pool}
-use Rattle.pool_state.specs.Books.{entry_at, book_entry, block_books}
+use Rattle.pool_state.specs.Books.{entry_at, found_at, book_entry, block_books}
 
 -- the cells with one of them changed
 abbrev pub with_cell : Cells → ℕ → Cell → Cells
 with_cell cells id cell = λ other. if other == id then cell else cells other
 
--- Disks and entries stand for cells: each entry says what its block's cell says, and in each world the files of each block
--- stand for its cell and its books. (The leftovers are those that the books will list.)
-pub record PoolStands (told : Option (List World)) (volumes : ℕ) (entries : ℕ → Option Entry) (cells : Cells) : Type 0 where
+-- the volume is one of these
+abbrev pub IsVolume : ℕ → ℕ → Type 0
+IsVolume volumes vol = (1 ≤ vol) × (vol ≤ volumes)
+
+-- the entry isn't that of a block that waits
+abbrev pub IsNoWait : State → Type 0
+IsNoWait Finalised = Unit {0}
+IsNoWait (Writing block_number meta_number) = Unit {0}
+IsNoWait Unsure = Unit {0}
+IsNoWait (Waiting block_left meta_left) = ⊥
+
+abbrev pub IsNotWaiting : Option Entry → Type 0
+IsNotWaiting None = Unit {0}
+IsNotWaiting (Some entry) = IsNoWait entry.state
+
+-- Disks and books stand for cells: each entry says what its block's cell says, and in each world the files of each block stand
+-- for its cell and its books; the opening found files of waiting blocks alone. Where the disks began sound, the meta file of each replica matches its bytes.
+pub record PoolStands (told : Option (List World)) (volumes : ℕ) (entries : ℕ → Option Entry) (found : ℕ → List Leftover) (sound : Bool) (cells : Cells) : Type 0 where
   pub some_volume : 1 ≤ volumes
   pub agrees : (id : ℕ) → IsBlockId id → Agrees (option_map book_entry (entries id)) (cells id)
-  pub placed : (id : ℕ) → IsBlockId id → IfSome (entries id) (λ entry. (1 ≤ entry.vol) × (entry.vol ≤ volumes))
-  pub left : ℕ → List Leftover
-  pub clean : (id : ℕ) → IsBlockId id → entries id ≡ None → left id ≡ []
+  pub placed : (id : ℕ) → IsBlockId id → IfSome (entries id) (λ entry. IsVolume volumes entry.vol)
+  pub found_placed : (id : ℕ) → IsBlockId id → Each (λ leftover. IsVolume volumes leftover.vol) (found id)
+  pub clean : (id : ℕ) → IsBlockId id → IsNotWaiting (entries id) → found id ≡ []
   pub blocks : InEachWorld told (λ world. (id : ℕ) → IsBlockId id →
-      BlockStands Matches (view_of world id) (block_books (entries id) (left id)) (cells id))
+      BlockStands (MatchesIf sound) (view_of world id) (block_books (entries id) (found id)) (cells id))
   pub aside : InEachWorld told DraftsAside
 
 -- no file of a block stands in any world, and every draft stands aside
@@ -42,10 +59,10 @@ pub record GoesOn {D : Type 0} (worlds_of : D → Option (List World)) (faults_o
   pub volume_count : volumes_of new ≡ volumes_of old
 
 module _ {D S T R : Type 0} (worlds : D → Option (List World)) (volume_count : D → ℕ) where
-  -- a pool stands for cells
-  abbrev pub Stands : Pool D S T R → Cells → Type 0
-  Stands pool cells = PoolStands (worlds pool.disks) (volume_count pool.disks) (entry_at pool.map) cells
+  -- a pool stands for cells, its disks having begun sound or not
+  abbrev pub Stands : Pool D S T R → Bool → Cells → Type 0
+  Stands pool = PoolStands (worlds pool.disks) (volume_count pool.disks) (entry_at pool.map) (found_at pool.map)
 
   -- a pool stands for some cells
   abbrev pub StandsForSome : Pool D S T R → Type 0
-  StandsForSome pool = (cells : Cells) × Stands pool cells
+  StandsForSome pool = (cells : Cells) × Stands pool false cells

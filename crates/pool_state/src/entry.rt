@@ -8,10 +8,11 @@ pub enum State {
     Finalised,
     /// A replica that a writer writes, with the numbers of the writer's two drafts.
     Writing { block: u64, meta: u64 },
-    /// A replica in doubt, since its finish failed: it is whole, or there is none.
+    /// A replica in doubt, since its finish or a deletion of it failed: it is whole, or there is none.
     Unsure,
-    /// No replica, but files that wait to be deleted.
-    Waiting,
+    /// No replica, but files that wait to be deleted: whether the block file and the meta file of a writer that was given
+    /// up may stand under `current/rbw`, beside those that the opening found.
+    Waiting { block: bool, meta: bool },
 }
 
 /// What the books say of one block.

@@ -1,31 +1,32 @@
 //! The end of a write.
 ghost use Rattle.std.specs.Prelude.{◌≡◌, ◌≢◌, ℕ, List, None, Some, false, IsErr, IsOk};
 ghost use Rattle.disk_model.specs.Causes.{Rose};
-ghost use Rattle.map_model.specs.Cells.{Cells, final, growing, unsure, waiting};
-ghost use Rattle.map_model.specs.Steps.{finish, failed};
-ghost use Rattle.pool_state.specs.Answers.{TakesStep, finish_reply, IsWritten};
+ghost use Rattle.map_model.specs.Cells.{Cells, absent, final, growing, unsure, waiting};
+ghost use Rattle.map_model.specs.Steps.{finish, drop_write, failed};
+ghost use Rattle.pool_state.specs.Answers.{finish_reply, IsWritten};
 ghost use Rattle.pool_state.specs.Books.{entry_at};
+ghost use Rattle.pool_state.specs.Tenures.{Takes};
 ghost use Rattle.pool_state.specs.Stands.{Stands, StandsForSome, GoesOn};
-ghost use Rattle.pool_state.specs.Writers.{pair_of, PairStands};
+ghost use Rattle.pool_state.specs.Writers.{pair_of, PairStands, writer_of, WriterStands};
 
 use crate::entry::{Entry, State};
 use crate::pool_record::Pool;
 use crate::writer::{SealedPair, Writing};
 use disk_model::{Failed, PoolDisks};
-use volume_layout::{block_path, meta_path};
+use volume_layout::{block_path, meta_path, rbw_block, rbw_meta};
 
 impl<D: PoolDisks> Pool<D> {
     /// Finishes a fresh write: publishes its meta file, then its block. Where that fails the block is in doubt. It takes no memory.
     pub fn finish(&mut self, pair: SealedPair<D>) -> Result<(), Failed>
         requires stands { StandsForSome D.worlds D.volume_count self.old }
         requires belongs { (bytes : List ℕ) × PairStands (D.worlds self.old.disks) (entry_at self.old.map) (pair_of D.Sealed.place D.Sealed.bytes pair) bytes }
-        ensures step { (cells : Cells) (bytes : List ℕ) (left : ℕ) → Stands D.worlds D.volume_count self.old cells →
+        ensures step { (cells : Cells) (bytes : List ℕ) (left : ℕ) → Stands D.worlds D.volume_count self.old false cells →
             PairStands (D.worlds self.old.disks) (entry_at self.old.map) (pair_of D.Sealed.place D.Sealed.bytes pair) bytes →
             cells pair.id ≡ growing pair.stamp None bytes left →
-            TakesStep pair.id finish (finish_reply result)
+            Takes D.worlds D.volume_count D.left_since pair.id finish (finish_reply result)
             (λ cell. (IsErr result → cell ≡ unsure None (Some (record { stamp = pair.stamp; bytes = bytes })) false)
             × (IsOk result → cell ≡ final (record { stamp = pair.stamp; bytes = bytes })))
-            cells (D.worlds self.new.disks) (D.volume_count self.new.disks) (entry_at self.new.map) }
+            cells self.old self.new }
         ensures others { (other : ℕ) → other ≢ pair.id → entry_at self.new.map other ≡ entry_at self.old.map other }
         ensures goes_on { GoesOn D.worlds D.faults D.next_number D.moment D.volume_count self.old.disks self.new.disks }
         ensures failed { IsErr result → Rose (D.faults self.old.disks) (D.faults self.new.disks) }
@@ -62,15 +63,67 @@ impl<D: PoolDisks> Pool<D> {
         Ok(())
     }
 
+    /// Drops a fresh writer: removes its two files under `current/rbw`. Where that fails its block waits to be deleted. It takes
+    /// no memory.
+    pub fn drop_write(&mut self, writer: Writing<D>) -> Result<(), Failed>
+        requires stands { StandsForSome D.worlds D.volume_count self.old }
+        requires belongs { (bytes : List ℕ) × WriterStands (D.worlds self.old.disks) (entry_at self.old.map) (writer_of D.Draft.place D.Draft.bytes writer) bytes }
+        ensures step { (cells : Cells) (bytes : List ℕ) (left : ℕ) → Stands D.worlds D.volume_count self.old false cells →
+            WriterStands (D.worlds self.old.disks) (entry_at self.old.map) (writer_of D.Draft.place D.Draft.bytes writer) bytes →
+            cells writer.id ≡ growing writer.stamp None bytes left →
+            Takes D.worlds D.volume_count D.left_since writer.id drop_write (finish_reply result)
+            (λ cell. (IsErr result → cell ≡ waiting) × (IsOk result → cell ≡ absent))
+            cells self.old self.new }
+        ensures others { (other : ℕ) → other ≢ writer.id → entry_at self.new.map other ≡ entry_at self.old.map other }
+        ensures goes_on { GoesOn D.worlds D.faults D.next_number D.moment D.volume_count self.old.disks self.new.disks }
+        ensures failed { IsErr result → Rose (D.faults self.old.disks) (D.faults self.new.disks) }
+    {
+        let Writing { id, stamp, vol, .. } = writer;
+        match self.disks.remove(vol, rbw_block(id).as_str()) {
+            Ok(()) => {}
+            Err(failed) => {
+                self.map.set_state(
+                    id,
+                    State::Waiting {
+                        block: true,
+                        meta: true,
+                    },
+                );
+                return Err(failed);
+            }
+        }
+        match self.disks.remove(vol, rbw_meta(id, stamp).as_str()) {
+            Ok(()) => {}
+            Err(failed) => {
+                self.map.set_state(
+                    id,
+                    State::Waiting {
+                        block: false,
+                        meta: true,
+                    },
+                );
+                return Err(failed);
+            }
+        }
+        self.map.remove(id);
+        Ok(())
+    }
+
     /// Gives a fresh writer up: its block waits to be deleted. It makes no device call and takes no memory.
     pub fn fail_write(&mut self, writer: Writing<D>)
         requires writes { IsWritten (entry_at self.old.map writer.id) }
-        ensures step { (cells : Cells) (stamp left : ℕ) (bytes : List ℕ) → Stands D.worlds D.volume_count self.old cells →
+        ensures step { (cells : Cells) (stamp left : ℕ) (bytes : List ℕ) → Stands D.worlds D.volume_count self.old false cells →
             cells writer.id ≡ growing stamp None bytes left →
-            TakesStep writer.id finish failed (λ cell. cell ≡ waiting) cells (D.worlds self.new.disks) (D.volume_count self.new.disks) (entry_at self.new.map) }
+            Takes D.worlds D.volume_count D.left_since writer.id finish failed (λ cell. cell ≡ waiting) cells self.old self.new }
         ensures others { (other : ℕ) → other ≢ writer.id → entry_at self.new.map other ≡ entry_at self.old.map other }
         ensures disks { self.new.disks ≡ self.old.disks }
     {
-        self.map.set_state(writer.id, State::Waiting);
+        self.map.set_state(
+            writer.id,
+            State::Waiting {
+                block: true,
+                meta: true,
+            },
+        );
     }
 }

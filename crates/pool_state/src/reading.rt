@@ -1,9 +1,10 @@
 //! Reading a replica.
-ghost use Rattle.std.specs.Prelude.{◌≡◌, ◌<◌, ◌≤◌, ℕ, List, length, take, drop, None, Some, Ok, Err, IfOk, IfErr, IfSome, IsErrOf, IsErr, IsSome};
+ghost use Rattle.std.specs.Prelude.{◌≡◌, ◌<◌, ◌≤◌, ℕ, false, List, length, take, drop, None, Some, Ok, Err, IfOk, IfErr, IfSome, IsErrOf, IsErr, IsSome};
 ghost use Rattle.disk_model.specs.Causes.{Rose};
 ghost use Rattle.map_model.specs.Cells.{Cells};
 ghost use Rattle.map_model.specs.Steps.{Step, read};
 ghost use Rattle.pool_state.specs.Answers.{unlimited, start_fault, read_fault, GivenBetween};
+ghost use Rattle.pool_state.specs.Tenures.{Rests};
 ghost use Rattle.pool_state.specs.Stands.{Stands, StandsForSome, GoesOn};
 ghost use Rattle.pool_state.specs.Readers.{block_bytes, Lends, FailedToRead};
 
@@ -31,10 +32,11 @@ impl<D: PoolDisks> Pool<D> {
     pub fn start_read(&mut self, alloc: Global, id: BlockId) -> Result<ReadPair<D>, StartFault>
         requires stands { StandsForSome D.worlds D.volume_count self.old }
         ensures map { self.new.map ≡ self.old.map }
-        ensures stands { (cells : Cells) → Stands D.worlds D.volume_count self.old cells → Stands D.worlds D.volume_count self.new cells }
-        ensures refused { (cells : Cells) → Stands D.worlds D.volume_count self.old cells →
+        ensures quiet { (cells : Cells) → Stands D.worlds D.volume_count self.old false cells →
+            Rests D.worlds D.volume_count D.left_since cells self.old self.new }
+        ensures refused { (cells : Cells) → Stands D.worlds D.volume_count self.old false cells →
             IfErr result (λ fault. Step unlimited (cells id) read (start_fault fault) (cells id)) }
-        ensures lent { (cells : Cells) → Stands D.worlds D.volume_count self.old cells →
+        ensures lent { (cells : Cells) → Stands D.worlds D.volume_count self.old false cells →
             IfOk result (λ pair. Lends (D.worlds self.old.disks) (cells id) pair.stamp pair.len (block_bytes D.Reader.bytes pair)) }
         ensures numbers { IfOk result (λ pair. IfSome pair.block (λ reader.
             GivenBetween (D.next_number self.old.disks) (D.next_number self.new.disks) (D.Reader.number reader))) }
@@ -71,7 +73,7 @@ fn read_refusal(state: State) -> StartFault
         State::Finalised => StartFault::None,
         State::Writing { .. } => StartFault::Writing,
         State::Unsure => StartFault::Unsure,
-        State::Waiting => StartFault::Waiting,
+        State::Waiting { .. } => StartFault::Waiting,
     }
 }
 

@@ -1,26 +1,30 @@
-//! The entries of a pool, by block.
-ghost use Rattle.std.specs.Prelude.{◌≡◌, ◌≢◌, ℕ, ◌==◌, if◌then◌else◌, None, Some, OnOk, OnErr, IsSome, option_map};
+//! The books of a pool: the entries by block, and the files that its opening found.
+ghost use Rattle.std.specs.Prelude.{◌≡◌, ◌≢◌, ℕ, ◌==◌, if◌then◌else◌, ◌<◌, ◌++◌, suc, length, take, drop, [], None, Some, OnOk, OnErr, IsSome, option_map};
 ghost use Rattle.volume_layout.specs.Paths.{IsBlockId};
-ghost use Rattle.pool_state.specs.Books.{entry_at, with_state};
+ghost use Rattle.pool_state.specs.Books.{entry_at, found_at, with_state, IsFirstOf};
 
 use crate::entry::{Entry, State};
+use crate::leftover::Leftover;
 use std::alloc::{AllocError, Global};
 use std::collections::BTreeMap;
 use volume_layout::BlockId;
 
-/// The entries of a pool: at most one a block.
+/// The books of a pool: at most one entry a block, and the files of waiting blocks that the opening found.
 #[derive(Drop)]
 pub struct ReplicaMap {
     pub entries: BTreeMap<u64, Entry>,
+    pub found: Vec<Leftover>,
 }
 
 impl ReplicaMap {
-    /// A map without entries, which takes no memory.
+    /// Books without entries, which takes no memory.
     pub fn make(alloc: Global) -> ReplicaMap
-        ensures { (id : ℕ) → entry_at result id ≡ None }
+        ensures entries { (id : ℕ) → entry_at result id ≡ None }
+        ensures found { (id : ℕ) → found_at result id ≡ [] }
     {
         ReplicaMap {
             entries: BTreeMap::new(alloc),
+            found: Vec::new(alloc),
         }
     }
 
@@ -37,6 +41,7 @@ impl ReplicaMap {
         requires absent { entry_at self.old entry.id ≡ None }
         ensures added { OnOk result ((id : ℕ) → entry_at self.new id ≡ (if id == entry.id then Some entry else entry_at self.old id)) }
         ensures err { OnErr result ((id : ℕ) → entry_at self.new id ≡ entry_at self.old id) }
+        ensures found { self.new.found ≡ self.old.found }
     {
         self.entries.insert(entry.id.get(), entry)?;
         Ok(())
@@ -45,7 +50,8 @@ impl ReplicaMap {
     /// Replaces the entry of a block that has one. It takes no memory.
     pub fn change(&mut self, entry: Entry)
         requires present { IsSome (entry_at self.old entry.id) }
-        ensures { (id : ℕ) → entry_at self.new id ≡ (if id == entry.id then Some entry else entry_at self.old id) }
+        ensures changed { (id : ℕ) → entry_at self.new id ≡ (if id == entry.id then Some entry else entry_at self.old id) }
+        ensures found { self.new.found ≡ self.old.found }
     {
         match self.entries.insert(entry.id.get(), entry) {
             Ok(_) | Err(_) => {}
@@ -58,6 +64,7 @@ impl ReplicaMap {
         ensures valid { IsBlockId id }
         ensures changed { (other : ℕ) → entry_at self.new other ≡
             (if other == id then option_map (with_state state) (entry_at self.old id) else entry_at self.old other) }
+        ensures found { self.new.found ≡ self.old.found }
     {
         let Some(entry) = self.find(id) else {
             return;
@@ -69,8 +76,33 @@ impl ReplicaMap {
 
     /// Takes the entry of a block away, if it has one.
     pub fn remove(&mut self, id: BlockId)
-        ensures { (other : ℕ) → entry_at self.new other ≡ (if other == id then None else entry_at self.old other) }
+        ensures valid { IsBlockId id }
+        ensures removed { (other : ℕ) → entry_at self.new other ≡ (if other == id then None else entry_at self.old other) }
+        ensures found { self.new.found ≡ self.old.found }
     {
         self.entries.remove(&id.get());
+    }
+
+    /// The place of the first file that the opening found of a block.
+    pub fn first_found(&self, id: BlockId) -> Option<usize>
+        ensures some { (at : ℕ) → result ≡ Some at → IsFirstOf id self.now.found.items at }
+        ensures none { result ≡ None → found_at self.now id ≡ [] }
+    {
+        for at in 0..self.found.len() {
+            let leftover = self.found[at];
+            if leftover.id.get() == id.get() {
+                return Some(at);
+            }
+        }
+        None
+    }
+
+    /// Takes a file that the opening found off the list.
+    pub fn drop_found(&mut self, at: usize)
+        requires within { at < length self.old.found.items }
+        ensures entries { self.new.entries ≡ self.old.entries }
+        ensures found { self.new.found.items ≡ take at self.old.found.items ++ drop (suc at) self.old.found.items }
+    {
+        self.found.remove(at);
     }
 }

@@ -1,11 +1,12 @@
 //! The start of a fresh write.
-ghost use Rattle.std.specs.Prelude.{◌≡◌, ◌≢◌, ◌<◌, ◌≤◌, ℕ, ◌^◌, ◌⊎◌, [], None, Err, IsErr, IsOk, IfOk, IfSome, IsErrOf};
+ghost use Rattle.std.specs.Prelude.{◌≡◌, ◌≢◌, ◌<◌, ◌≤◌, ℕ, ◌^◌, ◌⊎◌, false, [], None, Err, IsErr, IsOk, IfOk, IfSome, IsErrOf};
 ghost use Rattle.disk_model.specs.Causes.{Rose};
 ghost use Rattle.map_model.specs.Cells.{Cells, absent, growing, waiting};
 ghost use Rattle.map_model.specs.Steps.{Step, start_write, memory};
 ghost use Rattle.volume_layout.specs.Paths.{IsBlockId};
-ghost use Rattle.pool_state.specs.Answers.{TakesStep, unlimited, start_fault, start_reply, write_fault, GivenBetween};
+ghost use Rattle.pool_state.specs.Answers.{unlimited, start_fault, start_reply, write_fault, GivenBetween};
 ghost use Rattle.pool_state.specs.Books.{entry_at};
+ghost use Rattle.pool_state.specs.Tenures.{Takes};
 ghost use Rattle.pool_state.specs.Stands.{Stands, StandsForSome, GoesOn};
 ghost use Rattle.pool_state.specs.Writers.{writer_of, WriterStands};
 
@@ -20,10 +21,10 @@ use volume_layout::{BlockId, Stamp, rbw_block, rbw_meta};
 impl<D: PoolDisks> Pool<D> {
     /// Why a write of a block would be refused, whatever its stamp and length; none where the block is absent.
     pub fn write_refusal(&self, id: BlockId) -> Option<StartFault>
-        ensures refused { (cells : Cells) (stamp need : ℕ) → Stands D.worlds D.volume_count self.now cells →
+        ensures refused { (cells : Cells) (stamp need : ℕ) → Stands D.worlds D.volume_count self.now false cells →
             IfSome result (λ fault. Step unlimited (cells id) (start_write stamp need) (start_fault fault) (cells id)) }
-        ensures absent { (cells : Cells) → Stands D.worlds D.volume_count self.now cells → result ≡ None → cells id ≡ absent }
-        ensures memory { (cells : Cells) (stamp need : ℕ) → need < 2 ^ 64 → Stands D.worlds D.volume_count self.now cells → result ≡ None →
+        ensures absent { (cells : Cells) → Stands D.worlds D.volume_count self.now false cells → result ≡ None → cells id ≡ absent }
+        ensures memory { (cells : Cells) (stamp need : ℕ) → need < 2 ^ 64 → Stands D.worlds D.volume_count self.now false cells → result ≡ None →
             Step unlimited (cells id) (start_write stamp need) memory (cells id) }
         ensures valid { IsBlockId id }
         ensures not_a_fault { IfSome result (λ fault. (fault ≢ StartFault.Failed) × (fault ≢ StartFault.Memory)) }
@@ -45,13 +46,13 @@ impl<D: PoolDisks> Pool<D> {
         need: u64,
     ) -> Result<Writing<D>, StartFault>
         requires stands { StandsForSome D.worlds D.volume_count self.old }
-        ensures step { (cells : Cells) → Stands D.worlds D.volume_count self.old cells →
-            TakesStep id (start_write stamp need) (start_reply result)
+        ensures step { (cells : Cells) → Stands D.worlds D.volume_count self.old false cells →
+            Takes D.worlds D.volume_count D.left_since id (start_write stamp need) (start_reply result)
             (λ cell. (result ≡ Err StartFault.Failed → cell ≡ waiting)
             × (result ≡ Err StartFault.Memory → cell ≡ waiting → D.next_number self.old.disks < D.next_number self.new.disks)
             × (IsErr result → (cell ≡ cells id) ⊎ (cell ≡ waiting))
             × (IsOk result → cell ≡ growing stamp None [] need))
-            cells (D.worlds self.new.disks) (D.volume_count self.new.disks) (entry_at self.new.map) }
+            cells self.old self.new }
         ensures others { (other : ℕ) → other ≢ id → entry_at self.new.map other ≡ entry_at self.old.map other }
         ensures writer { IfOk result (λ w. WriterStands (D.worlds self.new.disks) (entry_at self.new.map) (writer_of D.Draft.place D.Draft.bytes w) []) }
         ensures what { IfOk result (λ w. (w.id ≡ id) × (w.stamp ≡ stamp) × (w.reserved ≡ need)) }
@@ -69,7 +70,10 @@ impl<D: PoolDisks> Pool<D> {
             return Err(StartFault::Memory);
         };
         let vol = 1;
-        let state = State::Waiting;
+        let state = State::Waiting {
+            block: true,
+            meta: false,
+        };
         match self.map.insert(Entry {
             id,
             stamp,
@@ -90,7 +94,16 @@ impl<D: PoolDisks> Pool<D> {
         };
         let meta = match self.disks.create(alloc, vol, rbw_meta(id, stamp).as_str()) {
             Ok(meta) => meta,
-            Err(DiskError::Failed) => return Err(StartFault::Failed),
+            Err(DiskError::Failed) => {
+                self.map.set_state(
+                    id,
+                    State::Waiting {
+                        block: true,
+                        meta: true,
+                    },
+                );
+                return Err(StartFault::Failed);
+            }
             Err(DiskError::Memory) => return Err(StartFault::Memory),
         };
         let state = State::Writing {
@@ -125,6 +138,6 @@ fn write_refusal(state: State) -> StartFault
         State::Finalised => StartFault::Exists,
         State::Writing { .. } => StartFault::Writing,
         State::Unsure => StartFault::Unsure,
-        State::Waiting => StartFault::Waiting,
+        State::Waiting { .. } => StartFault::Waiting,
     }
 }

@@ -1,12 +1,13 @@
 //! What a writer does: pushing bytes, and sealing its two drafts.
-ghost use Rattle.std.specs.Prelude.{◌≡◌, ◌+◌, ◌-◌, ◌^◌, ◌<◌, ◌≤◌, ◌++◌, List, ℕ, length, IfOk, IfErr, OnOk, OnErr, IsErrOf, Option, None, IsTrue, is_some};
+ghost use Rattle.std.specs.Prelude.{◌≡◌, ◌+◌, ◌-◌, ◌^◌, ◌<◌, ◌≤◌, ◌++◌, List, ℕ, length, IfOk, IfErr, OnOk, OnErr, IsErrOf, Option, None, false, IsTrue, is_some};
 ghost use Rattle.disk_model.specs.Worlds.{World};
 ghost use Rattle.pool_state.specs.declared.entry.Entry.{Entry};
 ghost use Rattle.pool_state.specs.Writers.{writer_of, pair_of, WriterStands, PairStands, FailedOf, Keeps, fault_of};
 ghost use Rattle.map_model.specs.Cells.{Cells, growing};
 ghost use Rattle.map_model.specs.Steps.{push, done};
+ghost use Rattle.map_model.specs.Stands.{Leftover};
 ghost use Rattle.pool_state.specs.Stands.{PoolStands};
-ghost use Rattle.pool_state.specs.Answers.{TakesStep};
+ghost use Rattle.pool_state.specs.Answers.{StepsTo};
 ghost use Rattle.pool_state.specs.declared.writing.SealFault.TheVariants.{Failed, Memory};
 
 use crate::writer::{SealedPair, Writing};
@@ -66,11 +67,12 @@ impl<D: PoolDisks> Writing<D> {
         ensures pushed { (told : Option (List World)) (entries : ℕ → Option Entry) (bytes : List ℕ) →
             WriterStands told entries (writer_of D.Draft.place D.Draft.bytes self.old) bytes →
             OnOk result (WriterStands told entries (writer_of D.Draft.place D.Draft.bytes self.new) (bytes ++ piece.now)) }
-        ensures step { (told : Option (List World)) (volumes : ℕ) (entries : ℕ → Option Entry) (cells : Cells) (bytes : List ℕ) → PoolStands told volumes entries cells →
-            WriterStands told entries (writer_of D.Draft.place D.Draft.bytes self.old) bytes →
+        ensures step { (told : Option (List World)) (volumes : ℕ) (entries : ℕ → Option Entry) (found : ℕ → List Leftover) (cells : Cells) (bytes : List ℕ) →
+            PoolStands told volumes entries found false cells → WriterStands told entries (writer_of D.Draft.place D.Draft.bytes self.old) bytes →
             cells self.old.id ≡ growing self.old.stamp None bytes (self.old.reserved - self.old.len) →
-            OnOk result (TakesStep self.old.id (push piece.now) done
-            (λ cell. cell ≡ growing self.new.stamp None (bytes ++ piece.now) (self.new.reserved - self.new.len)) cells told volumes entries) }
+            OnOk result (StepsTo self.old.id (push piece.now) done
+            (λ cell. cell ≡ growing self.new.stamp None (bytes ++ piece.now) (self.new.reserved - self.new.len)) cells
+            (PoolStands told volumes entries found) (PoolStands told volumes entries found)) }
         ensures keeps { Keeps (writer_of D.Draft.place D.Draft.bytes self.old) (writer_of D.Draft.place D.Draft.bytes self.new) }
     {
         let len = piece.len() as u64;

@@ -7,7 +7,7 @@ use Rattle.hex.specs.Hex.{decode_of}
 use Rattle.script_lang.specs.declared.LineFault.{LineFault}
 use Rattle.script_lang.specs.declared.LineFault.TheVariants.{Bad, Later}
 use Rattle.script_lang.specs.declared.Line.{Line}
-use Rattle.script_lang.specs.declared.Line.TheVariants.{Blank, Open, Push, Finish, Read}
+use Rattle.script_lang.specs.declared.Line.TheVariants.{Blank, Open, Push, Finish, Write, Read, Delete}
 use Rattle.script_lang.specs.Number.{number_of, id_of, IsId}
 use Rattle.script_lang.specs.Words.{Cursor, first_word, behind_word, field, ends_with, ◌>>=◌}
 
@@ -42,10 +42,24 @@ read_line c = do
   id ← field id_of c
   ends_with (behind_word c) (Read id)
 
+-- ID STAMP HEX
+abbrev pub write_line : Cursor → Result Line LineFault
+write_line c = do
+  id ← field id_of c
+  stamp ← field id_of (behind_word c)
+  bytes ← field bytes_of (behind_word (behind_word c))
+  ends_with (behind_word (behind_word (behind_word c))) (Write id stamp bytes)
+
+-- ID
+abbrev pub delete_line : Cursor → Result Line LineFault
+delete_line c = do
+  id ← field id_of c
+  ends_with (behind_word c) (Delete id)
+
 -- the first words of the language whose lines aren't carried out yet
 unfoldable pub later_words : List (List ℕ)
 later_words =
-    codes "at" ∷ codes "use" ∷ codes "grow" ∷ codes "drop" ∷ codes "write" ∷ codes "append" ∷ codes "delete" ∷ codes "reopen"
+    codes "at" ∷ codes "use" ∷ codes "grow" ∷ codes "drop" ∷ codes "append" ∷ codes "reopen"
     ∷ codes "mbegin" ∷ codes "mcopy" ∷ codes "mseal" ∷ codes "mpublish" ∷ codes "mdrop" ∷ codes "sweep"
     ∷ codes "report" ∷ codes "balance" ∷ codes "execute" ∷ codes "query" ∷ codes "cancel" ∷ codes "mover"
     ∷ codes "dirlist" ∷ codes "dirdiff" ∷ codes "dirfix" ∷ codes "volload" ∷ codes "volnext" ∷ codes "volcheck" ∷ codes "volreport"
@@ -63,6 +77,8 @@ line_after word c =
     else if bytes_eq word (codes "push") then push_line c
     else if bytes_eq word (codes "finish") then finish_line c
     else if bytes_eq word (codes "read") then read_line c
+    else if bytes_eq word (codes "write") then write_line c
+    else if bytes_eq word (codes "delete") then delete_line c
     else if list_any (bytes_eq word) later_words then Err Later
     else Err (Bad 1)
 
@@ -76,4 +92,6 @@ IsLineInRange Blank = ⊤
 IsLineInRange (Open id stamp need) = IsId id × IsId stamp
 IsLineInRange (Push id hex) = IsId id
 IsLineInRange (Finish id) = IsId id
+IsLineInRange (Write id stamp hex) = IsId id × IsId stamp
 IsLineInRange (Read id) = IsId id
+IsLineInRange (Delete id) = IsId id

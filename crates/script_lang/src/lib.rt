@@ -15,7 +15,7 @@ mod words_fault;
 ghost use Rattle.std.specs.Prelude.{◌≡◌, ◌⊎◌, Err, IfOk};
 ghost use Rattle.std.specs.List.{list_any};
 ghost use Rattle.std.specs.Str.{bytes_eq};
-ghost use Rattle.script_lang.specs.Script.{line_of, open_line, push_line, later_words, IsLineInRange};
+ghost use Rattle.script_lang.specs.Script.{line_of, open_line, push_line, write_line, later_words, IsLineInRange};
 ghost use Rattle.script_lang.specs.declared.LineFault.TheVariants.{Memory};
 
 use crate::bytes::Bytes;
@@ -45,8 +45,18 @@ pub enum Line {
     Finish {
         id: BlockId,
     },
+    /// `write ID STAMP HEX` writes a whole block. HEX may be empty.
+    Write {
+        id: BlockId,
+        stamp: Stamp,
+        hex: Bytes,
+    },
     /// `read ID` gives the bytes of a block.
     Read {
+        id: BlockId,
+    },
+    /// `delete ID` deletes a block.
+    Delete {
         id: BlockId,
     },
 }
@@ -86,6 +96,11 @@ pub fn read_line(alloc: Global, line: &[u8]) -> Result<Line, LineFault>
     } else if first == b"read".as_slice() {
         let id = words.id()?;
         words.end(Line::Read { id })
+    } else if first == b"write".as_slice() {
+        read_write(alloc, &mut words)
+    } else if first == b"delete".as_slice() {
+        let id = words.id()?;
+        words.end(Line::Delete { id })
     } else if is_later(first) {
         Err(LineFault::Later)
     } else {
@@ -94,14 +109,12 @@ pub fn read_line(alloc: Global, line: &[u8]) -> Result<Line, LineFault>
 }
 
 /// The first words of the language whose lines aren't carried out yet.
-const LATER: [&[u8]; 29] = [
+const LATER: [&[u8]; 27] = [
     b"at",
     b"use",
     b"grow",
     b"drop",
-    b"write",
     b"append",
-    b"delete",
     b"reopen",
     b"mbegin",
     b"mcopy",
@@ -160,6 +173,17 @@ fn read_push(alloc: Global, words: &mut Words) -> Result<Line, LineFault>
     let id = words.id()?;
     let hex = words.bytes(alloc)?;
     words.end(Line::Push { id, hex })
+}
+
+/// The rest of a `write` line.
+fn read_write(alloc: Global, words: &mut Words) -> Result<Line, LineFault>
+    ensures line { (result ≡ Err Memory) ⊎ (result ≡ write_line words.old) }
+    ensures in_range { IfOk result IsLineInRange }
+{
+    let id = words.id()?;
+    let stamp = words.stamp()?;
+    let hex = words.bytes(alloc)?;
+    words.end(Line::Write { id, stamp, hex })
 }
 
 #[cfg(test)]

@@ -23,9 +23,18 @@ fn told_line(alloc: Global, line: &Line) -> Result<String, Fail> {
             let id = id.get();
             format!(in alloc; "finish {id}")?
         }
+        Line::Write { id, stamp, hex } => {
+            let (id, stamp) = (id.get(), stamp.get());
+            let digits = hex::encode(alloc, hex.as_slice())?;
+            format!(in alloc; "write {id} {stamp} {digits}")?
+        }
         Line::Read { id } => {
             let id = id.get();
             format!(in alloc; "read {id}")?
+        }
+        Line::Delete { id } => {
+            let id = id.get();
+            format!(in alloc; "delete {id}")?
         }
     };
     Ok(told)
@@ -73,9 +82,18 @@ fn lines_are_read(rt: HostRuntime) -> Result<(), Fail> {
         ("finish 5\r", "bad 8"),
         ("finish", "bad 7"),
         ("finish ", "bad 8"),
+        ("write 5 1001 6f6c64", "write 5 1001 6f6c64"),
+        ("write 5 1001 ", "write 5 1001 "),
+        ("write 5 1001", "bad 13"),
+        ("write 5 0 61", "bad 9"),
+        ("write 5 1 6", "bad 11"),
+        ("write 5 1 61 ", "bad 14"),
         ("read 5", "read 5"),
         ("read  5", "bad 6"),
         ("raed 5", "bad 1"),
+        ("delete 5", "delete 5"),
+        ("delete  ", "bad 8"),
+        ("delete 5 6", "bad 10"),
         ("Read 5", "bad 1"),
         (" open 5 1 1", "bad 1"),
         ("\r", "bad 1"),
@@ -97,9 +115,7 @@ fn lines_of_other_words_come_later(rt: HostRuntime) -> Result<(), Fail> {
         "use bp1",
         "grow 5 1 1",
         "drop 5",
-        "write 5 1 61",
         "append 5 1 61",
-        "delete 5",
         "reopen",
         "mbegin 5 1",
         "mcopy 5 1",
@@ -124,7 +140,6 @@ fn lines_of_other_words_come_later(rt: HostRuntime) -> Result<(), Fail> {
         "fill 1 1",
         "at",
         "reopen now",
-        "delete  ",
     ];
     for text in texts {
         assert_eq!(rt; told(alloc, text)?.as_str(), "later", "at {text}");

@@ -1,17 +1,18 @@
 use Rattle.std.proofs.Common.{ap, sym, subst, Ok, Err, arith}
 use Rattle.dn_play.specs.declared.ending.Ending.{Ending}
 use Rattle.dn_play.specs.Answer.{Played}
-use Rattle.dn_play.specs.Standing.{faulty_of, mark_of}
+use Rattle.dn_play.specs.Standing.{SessionStands, SoundFor, faulty_of, mark_of}
 use Rattle.dn_play.proofs.Progress.{starts, goes_on_by, played_nothing, played_complete, played_fault, played_unanswered, not_complete, not_sink, from_source, rose_from, ends_lines, answered_complete, answered_source}
+use Rattle.dn_play.proofs.Crashes.{now_allowed}
 use Rattle.dn_play.proofs.Marks.{went_same, went_then}
 use Rattle.dn_play.proofs.lines.play_lines.Goals as goal
 
 pub returns-in_default-clause-played : goal.returns-in_default-clause-played
-returns-in_default-clause-played g c state standing = played_nothing _ _
+returns-in_default-clause-played g c state standing = played_nothing standing (now_allowed standing.pool (g.met.D.PoolDisks.only_now c.args.session.now.pool.disks)) _ _
 
 pub lines-init : goal.lines-init
 lines-init g c = let none_yet = c.new-reader.ensures.count in record {
-  progress = λ state standing. starts _ _ _ _ standing c.new-reader.ensures.nothing c.new-reader.ensures.count;
+  progress = λ state standing. starts standing (now_allowed standing.pool (g.met.D.PoolDisks.only_now c.args.session.now.pool.disks)) _ _ _ _ c.new-reader.ensures.nothing c.new-reader.ensures.count;
   went_on = went_same _ _ _ _ _ _;
   counted = omega arith;
   in_limit = omega arith;
@@ -23,7 +24,10 @@ pub returns-in-Err-clause-played : goal.returns-in-Err-clause-played
 returns-in-Err-clause-played g c state standing =
     subst (λ (ending : Ending). Played (faulty_of g.D.Draft.Draft.place g.D.Draft.Draft.faults g.D.Reader.Reader.number g.D.Reader.Reader.faults) (g.D.PoolDisks.worlds c.args.session.now.pool.disks) state
     (mark_of g.D.PoolDisks.faults g.D.PoolDisks.next_number g.D.PoolDisks.moment c.args.session.now.pool.disks) (mark_of g.D.PoolDisks.faults g.D.PoolDisks.next_number g.D.PoolDisks.moment c.lines.session.pool.disks)
-    (g.S.Source.left c.args.source.now) (g.K.Sink.taken c.args.sink.now) (g.K.Sink.taken c.lines.sink) ending) (sym c.ending_of.ensures)
+    (g.S.Source.left c.args.source.now) (g.K.Sink.taken c.args.sink.now) (g.K.Sink.taken c.lines.sink) ending
+    (SessionStands g.D.PoolDisks.worlds g.D.PoolDisks.volume_count g.D.Draft.Draft.place g.D.Draft.Draft.bytes c.lines.session)
+    (SoundFor g.D.PoolDisks.worlds g.D.PoolDisks.volume_count g.D.Draft.Draft.place g.D.Draft.Draft.bytes c.args.session.now) (SoundFor g.D.PoolDisks.worlds g.D.PoolDisks.volume_count g.D.Draft.Draft.place g.D.Draft.Draft.bytes c.lines.session)
+    (g.D.PoolDisks.left_since c.args.session.now.pool.disks) (g.D.PoolDisks.left_since c.lines.session.pool.disks)) (sym c.ending_of.ensures)
     (played_fault _ (g.S.Source.left c.lines.source) c.lines.reader.bytes c.lines.number c.lines.reader.count _ _ (c.lines.invariant.progress state standing) c.in-Err.fault (λ e. c.in-Err.ensures.limit (ap Err e)))
 
 pub returns-in-Err-clause-of_lines : goal.returns-in-Err-clause-of_lines

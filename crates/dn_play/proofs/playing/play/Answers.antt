@@ -26,7 +26,7 @@ returns-in-Some-clause-run g c = λ fits one.
       after = only.disk;
       one_before = only.only;
       one_after = only.only;
-      holds = run_without _ _ _ _ _ _ c.in-Some.ending _ (judged_memory _ _ c.in-Some.ending (judged_items g.D.PoolDisks.volume_count (map string_bytes c.args.words.now) (Some c.in-Some.ending) _ _ c.as_slice.ensures.value c.in-Some.ensures) fits one) c.close.ensures.closed;
+      holds = run_without _ _ _ _ _ _ _ c.in-Some.ending _ (judged_memory _ _ c.in-Some.ending (judged_items g.D.PoolDisks.volume_count (map string_bytes c.args.words.now) (Some c.in-Some.ending) _ _ c.as_slice.ensures.value c.in-Some.ensures) fits one) (g.met.D.PoolDisks.only_now only.disk) c.close.ensures.closed;
     }
 
 pub returns-in-Some-clause-at_end : goal.returns-in-Some-clause-at_end
@@ -71,7 +71,7 @@ returns-clause-refused g c = λ unfit.
     absurd (let fits = subst (λ items. words_fit g.D.PoolDisks.volume_count (map string_bytes c.args.words.now) items ≡ true) c.as_slice.ensures.value c.in_default.ensures.0 in let x : true ≡ false = sym fits ∙ unfit in cc x)
 
 pub returns-clause-usage : goal.returns-clause-usage
-returns-clause-usage g c = λ e. absurd (not_usage _ _ c.play_pool-run.ensures.runs.shown _ c.play_pool-run.ensures.runs.goes
+returns-clause-usage g c = λ e. absurd (not_usage _ _ _ _ c.play_pool-run.ensures.runs.shown _ c.play_pool-run.ensures.runs.goes
     (of_usage _ (told_status _ _ 1 c.close-status.ensures.status e (λ k. omega arith) (λ k. omega arith))))
 
 pub returns-clause-later : goal.returns-clause-later
@@ -86,7 +86,7 @@ returns-clause-run g c = λ fits one.
       after = c.play_pool-run.result.disks;
       one_before = p.0;
       one_after = p.1;
-      holds = run_of _ _ _ (g.K.Sink.taken c.play_pool-run.new.sink) _ _ _ c.play_pool-run.ensures.runs c.close-status.ensures.closed;
+      holds = run_of _ _ _ _ _ (g.K.Sink.taken c.play_pool-run.new.sink) _ _ _ c.play_pool-run.ensures.runs c.close-status.ensures.closed;
     }
 
 pub returns-clause-at_end : goal.returns-clause-at_end
@@ -107,14 +107,14 @@ returns-clause-open_fault g c = λ e.
       after = c.play_pool-run.result.disks;
       one_before = p.0;
       one_after = p.1;
-      holds = opening_failed _ _ c.play_pool-run.ensures.runs.shown _ c.play_pool-run.ensures.runs.goes (of_open _ (told_status _ _ 6 c.close-status.ensures.status e (λ k. omega arith) (λ k. omega arith)));
+      holds = opening_failed _ _ _ _ c.play_pool-run.ensures.runs.shown _ c.play_pool-run.ensures.runs.goes (of_open _ (told_status _ _ 6 c.close-status.ensures.status e (λ k. omega arith) (λ k. omega arith)));
     }
 
 pub returns-clause-complete : goal.returns-clause-complete
 returns-clause-complete g c = λ fits one.
     let only = one_disk g.D.PoolDisks.volume_count _ _ fits one in
     let p = in_place g.D.PoolDisks.volume_count _ _ _ _ c.play_pool-run.result.disks only c.in-Some-pop.ensures.items c.in-Ok.ensures.items in
-    stops_at _ _ _ _ _ _ _ _ (run_of _ _ _ (g.K.Sink.taken c.play_pool-run.new.sink) _ _ _ c.play_pool-run.ensures.runs c.close-status.ensures.closed)
+    stops_at _ _ _ _ _ _ _ _ _ _ (run_of _ _ _ _ _ (g.K.Sink.taken c.play_pool-run.new.sink) _ _ _ c.play_pool-run.ensures.runs c.close-status.ensures.closed)
     (λ e. c.play_pool-run.ensures.source (of_source _ (told_status _ _ 2 c.close-status.ensures.status e (λ k. omega arith) (λ k. omega arith))))
     (λ e. rose_in _ _ (g.K.Sink.faults c.play_pool-run.new.sink) _ c.play_pool-run.ensures.sink c.play_pool-run.ensures.later_sink c.close-status.ensures.later (c.close-status.ensures.sink e))
     (λ rose. record { before = c.in-Some-pop.disk; after = c.play_pool-run.result.disks; one_before = p.0; one_after = p.1; holds = rose })

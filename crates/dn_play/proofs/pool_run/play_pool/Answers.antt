@@ -1,33 +1,34 @@
 use Rattle.std.proofs.Common.{inl, inr, ap, refl, Err, option_map}
 use Rattle.pool_state.specs.Writers.{writer_of}
 use Rattle.pool_open.specs.Outcome.{fault_disks}
-use Rattle.dn_play.specs.Play.{first_state}
 use Rattle.dn_play.proofs.Answering.{appends_nothing}
-use Rattle.dn_play.proofs.Opening.{stands_first, stops_so, runs_so}
+use Rattle.dn_play.proofs.Opening.{first_of, stands_first, stops_so, runs_so}
 use Rattle.dn_play.proofs.pool_run.play_pool.Goals as goal
 
 pub returns-in-Err-Failed-clause-runs : goal.returns-in-Err-Failed-clause-runs
 returns-in-Err-Failed-clause-runs g c =
     let o = c.in-Err-Failed in
-    stops_so _ _ _ _ _ _ _ _ o.disks o.field-0 _ _ _ o.disks-is (ap fault_disks o.field-0-is) o.ensures.goes_on (inr (inl refl)) (appends_nothing _)
-    (λ e. o.ensures.failed o.disks (ap Err o.field-0-is)) (λ e. absurd (cc e))
+    stops_so _ _ _ _ _ g.D.PoolDisks.left_since _ _ (g.met.D.PoolDisks.only_now c.args.disks) _ o.disks o.field-0 _ _ _ o.disks-is (ap fault_disks o.field-0-is) o.ensures.goes_on (inr (inl refl)) (appends_nothing _)
+    (λ e. o.ensures.failed o.disks (ap Err o.field-0-is)) (λ e. absurd (cc e)) o.ensures.images
 
 pub returns-in-Err-Memory-clause-runs : goal.returns-in-Err-Memory-clause-runs
 returns-in-Err-Memory-clause-runs g c =
     let o = c.in-Err-Memory in
-    stops_so _ _ _ _ _ _ _ _ o.disks o.field-0 _ _ _ o.disks-is (ap fault_disks o.field-0-is) o.ensures.goes_on (inl refl) (appends_nothing _) (λ e. absurd (cc e)) (λ e. absurd (cc e))
+    stops_so _ _ _ _ _ g.D.PoolDisks.left_since _ _ (g.met.D.PoolDisks.only_now c.args.disks) _ o.disks o.field-0 _ _ _ o.disks-is (ap fault_disks o.field-0-is) o.ensures.goes_on (inl refl) (appends_nothing _) (λ e. absurd (cc e)) (λ e. absurd (cc e)) o.ensures.images
 
 pub returns-in-Err-Later-clause-runs : goal.returns-in-Err-Later-clause-runs
 returns-in-Err-Later-clause-runs g c =
     let o = c.in-Err-Later in
-    stops_so _ _ _ _ _ _ _ _ o.disks o.field-0 _ _ _ o.disks-is (ap fault_disks o.field-0-is) o.ensures.goes_on (inr (inr refl)) (appends_nothing _)
-    (λ e. absurd (cc e)) (λ e image holds. o.ensures.later image holds o.disks (ap Err o.field-0-is))
+    stops_so _ _ _ _ _ g.D.PoolDisks.left_since _ _ (g.met.D.PoolDisks.only_now c.args.disks) _ o.disks o.field-0 _ _ _ o.disks-is (ap fault_disks o.field-0-is) o.ensures.goes_on (inr (inr refl)) (appends_nothing _)
+    (λ e. absurd (cc e)) (λ e image holds. o.ensures.later image holds o.disks (ap Err o.field-0-is)) o.ensures.images
 
 pub play_lines-ending-requires : goal.play_lines-ending-requires
-play_lines-ending-requires g c = record { stands = (first_state, stands_first _ _ _ _ c.in-Ok.ensures.stands (λ id. ap (option_map (writer_of g.D.Draft.Draft.place g.D.Draft.Draft.bytes)) (c.new.ensures id))) }
+play_lines-ending-requires g c = record { stands = (first_of c.in-Ok.ensures.opened.cells, stands_first _ c.in-Ok.ensures.opened (λ id. ap (option_map (writer_of g.D.Draft.Draft.place g.D.Draft.Draft.bytes)) (c.new.ensures id))) }
 
 pub returns-clause-runs : goal.returns-clause-runs
 returns-clause-runs g c =
-    let standing = stands_first _ _ _ _ c.in-Ok.ensures.stands (λ id. ap (option_map (writer_of g.D.Draft.Draft.place g.D.Draft.Draft.bytes)) (c.new.ensures id)) in
-    runs_so _ _ _ _ _ _ _ c.in-Ok.pool.disks _ _ _ _ _ _ c.close_pool.ensures c.in-Ok.ensures.goes_on (c.play_lines-ending.ensures.played first_state standing)
-    c.play_lines-ending.ensures.of_lines (λ image holds. c.in-Ok.ensures.none image holds refl)
+    let opens = c.in-Ok.ensures.opened in
+    let standing = stands_first _ opens (λ id. ap (option_map (writer_of g.D.Draft.Draft.place g.D.Draft.Draft.bytes)) (c.new.ensures id)) in
+    runs_so _ _ _ _ _ g.D.PoolDisks.left_since _ _ (g.met.D.PoolDisks.only_now c.args.disks) c.in-Ok.pool.disks _ _ _ _ _ _ c.close_pool.ensures c.in-Ok.ensures.goes_on opens (g.met.D.PoolDisks.only_now c.in-Ok.pool.disks)
+    (c.play_lines-ending.ensures.played (first_of opens.cells) standing)
+    c.play_lines-ending.ensures.of_lines (λ image holds. c.in-Ok.ensures.one_meta image holds refl)

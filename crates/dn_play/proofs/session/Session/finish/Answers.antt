@@ -1,15 +1,15 @@
-use Rattle.std.proofs.Common.{◌≡◌, ◌-◌, inl, inr, Some, None, refl, sym, ◌∙◌, ap, subst, arith, option_map, true, false}
+use Rattle.std.proofs.Common.{◌≡◌, ◌-◌, inl, inr, None, refl, sym, ◌∙◌, ap, subst, arith, option_map, true, false}
 use Rattle.std.specs.Prelude.{MatchOption, IsSome}
-use Rattle.map_model.specs.Cells.{growing, waiting, final, unsure}
+use Rattle.map_model.specs.Cells.{growing}
 use Rattle.map_model.specs.Steps.{Step, finish, done, failed, memory, no_writer}
-use Rattle.pool_state.specs.Answers.{unlimited, TakesStep}
-use Rattle.pool_state.specs.Books.{entry_at}
+use Rattle.pool_state.specs.Answers.{unlimited}
+use Rattle.pool_state.specs.Books.{entry_at, found_at}
 use Rattle.pool_state.specs.Writers.{writer_of}
 use Rattle.dn_play.specs.Commands.{FailsBy}
 use Rattle.pool_state.specs.Stands.{PoolStands}
 use Rattle.pool_state.proofs.Starting.{with_cell-same}
 use Rattle.dn_play.specs.Standing.{NotGrowing, OpenWriter, faulty_of, mark_of}
-use Rattle.dn_play.proofs.Stepping.{goes_on, stays_on, carried_same, carried_on, seen_same, seen_some, put_back, took, writer_of_block, no_writer_of_block, open_goes_on}
+use Rattle.dn_play.proofs.Stepping.{at_block, crash_takes, crash_same, crash_only, goes_on, stays_on, carried_same, carried_on, seen_same, seen_some, put_back, took, writer_of_block, no_writer_of_block, open_goes_on}
 use Rattle.dn_play.proofs.Stepped.{no_finish, memory_finish, grows_not, faulty_writer}
 use Rattle.dn_play.proofs.session.Session.finish.Goals as goal
 
@@ -20,12 +20,12 @@ returns-in-Err-clause-step g c state standing =
     let same = stays_on standing standing.pool (λ t. t) (λ other. refl) (seen_same f _ _ c.in-Err.ensures.same) in
     elim c.in-Err.ensures.refused [
       | inl absent ↦
-          carried_same same no_writer (λ trust known. absent.0)
+          carried_same same (crash_same _ _ _) no_writer (λ trust known. absent.0)
           (no_finish (state.cells id) (no_writer_of_block _ _ _ (ap (option_map f) absent.1) (standing.writer id c.take.ensures.valid))) (λ e. absurd cc) (λ e w. absurd cc) refl
       | inr wanting ↦
           let some = seen_some _ wanting.1 in
           let at = writer_of_block _ _ _ (f some.0) (ap (option_map f) some.1) (standing.writer id c.take.ensures.valid) in
-          carried_same same memory (λ trust known. wanting.0)
+          carried_same same (crash_same _ _ _) memory (λ trust known. wanting.0)
           (subst (λ x. Step unlimited x finish memory x) (sym at.grows) (memory_finish some.0.stamp (some.0.reserved - some.0.len) at.bytes))
           (λ e. absurd cc) (λ e w. absurd (grows_not (state.cells id) some.0.stamp at.bytes (some.0.reserved - some.0.len) at.grows w)) refl
     ]
@@ -48,15 +48,13 @@ returns-in-Ok-finish-clause-step g c state standing =
     let grows : state.cells pair.id ≡ growing pair.stamp None at.bytes (w.reserved - w.len) =
     ap state.cells key ∙ at.grows ∙ ap (λ s. growing s None at.bytes (w.reserved - w.len)) (sym c.in-Ok-seal.ensures.stamp) in
     let there = c.in-Ok-finish.ensures.step state.cells at.bytes (w.reserved - w.len) standing.pool (c.in-Ok-seal.ensures.sealed _ _ at.bytes at.stands) grows in
-    let t = subst (λ n. TakesStep n finish done
-    (λ cell. (false ≡ true → cell ≡ unsure None (Some (record { stamp = pair.stamp; bytes = at.bytes })) false) × (true ≡ true → cell ≡ final (record { stamp = pair.stamp; bytes = at.bytes })))
-    state.cells (g.D.PoolDisks.worlds c.finish.new.self.disks) (g.D.PoolDisks.volume_count c.finish.new.self.disks) (entry_at c.finish.new.self.map)) key there in
+    let t = at_block key there in
     let seen = took f id _ _ c.in-Ok.ensures.taken in
-    carried_on t.cell
-    (goes_on standing id t.cell state.writers t.stands c.finish.ensures.goes_on.honest.1 (λ other apart. c.finish.ensures.others other (λ e. apart (e ∙ key))) seen.0 (λ other apart. refl)
-    (subst (λ o. MatchOption o (NotGrowing t.cell) (OpenWriter (g.D.PoolDisks.worlds c.finish.new.self.disks) (entry_at c.finish.new.self.map) id t.cell (state.writers id))) (sym seen.1)
-    (subst NotGrowing (sym (t.says.1 refl)) tt)))
-    done (λ trust known. refl) t.step (λ e. absurd cc) (λ e x. absurd cc) refl
+    carried_on t.to.cell
+    (goes_on standing id t.to.cell state.writers (t.to.stands _ standing.pool) c.finish.ensures.goes_on.honest.1 (λ other apart. c.finish.ensures.others other (λ e. apart (e ∙ key))) seen.0 (λ other apart. refl)
+    (subst (λ o. MatchOption o (NotGrowing t.to.cell) (OpenWriter (g.D.PoolDisks.worlds c.finish.new.self.disks) (entry_at c.finish.new.self.map) id t.to.cell (state.writers id))) (sym seen.1)
+    (subst NotGrowing (sym (t.to.says.1 refl)) tt)))
+    (crash_takes t) done (λ trust known. refl) t.to.step (λ e. absurd cc) (λ e x. absurd cc) refl
 
 pub returns-in-Err-finish-clause-step : goal.returns-in-Err-finish-clause-step
 returns-in-Err-finish-clause-step g c state standing =
@@ -69,16 +67,14 @@ returns-in-Err-finish-clause-step g c state standing =
     let grows : state.cells pair.id ≡ growing pair.stamp None at.bytes (w.reserved - w.len) =
     ap state.cells key ∙ at.grows ∙ ap (λ s. growing s None at.bytes (w.reserved - w.len)) (sym c.in-Ok-seal.ensures.stamp) in
     let there = c.in-Err-finish.ensures.step state.cells at.bytes (w.reserved - w.len) standing.pool (c.in-Ok-seal.ensures.sealed _ _ at.bytes at.stands) grows in
-    let t = subst (λ n. TakesStep n finish failed
-    (λ cell. (true ≡ true → cell ≡ unsure None (Some (record { stamp = pair.stamp; bytes = at.bytes })) false) × (false ≡ true → cell ≡ final (record { stamp = pair.stamp; bytes = at.bytes })))
-    state.cells (g.D.PoolDisks.worlds c.finish.new.self.disks) (g.D.PoolDisks.volume_count c.finish.new.self.disks) (entry_at c.finish.new.self.map)) key there in
+    let t = at_block key there in
     let seen = took f id _ _ c.in-Ok.ensures.taken in
-    carried_on t.cell
-    (goes_on standing id t.cell state.writers t.stands c.finish.ensures.goes_on.honest.1 (λ other apart. c.finish.ensures.others other (λ e. apart (e ∙ key))) seen.0 (λ other apart. refl)
-    (subst (λ o. MatchOption o (NotGrowing t.cell) (OpenWriter (g.D.PoolDisks.worlds c.finish.new.self.disks) (entry_at c.finish.new.self.map) id t.cell (state.writers id))) (sym seen.1)
-    (subst NotGrowing (sym (t.says.0 refl)) tt)))
-    failed (λ trust known. refl) t.step
-    (λ e. subst (FailsBy (faulty_of g.D.Draft.Draft.place g.D.Draft.Draft.faults g.D.Reader.Reader.number g.D.Reader.Reader.faults) (mark_of g.D.PoolDisks.faults g.D.PoolDisks.next_number g.D.PoolDisks.moment c.args.self.now.pool.disks) (mark_of g.D.PoolDisks.faults g.D.PoolDisks.next_number g.D.PoolDisks.moment c.finish.new.self.disks) (state.writers id) finish) (sym (t.says.0 refl)) (c.in-Err-finish.ensures.failed refl)) (λ e x. absurd cc) refl
+    carried_on t.to.cell
+    (goes_on standing id t.to.cell state.writers (t.to.stands _ standing.pool) c.finish.ensures.goes_on.honest.1 (λ other apart. c.finish.ensures.others other (λ e. apart (e ∙ key))) seen.0 (λ other apart. refl)
+    (subst (λ o. MatchOption o (NotGrowing t.to.cell) (OpenWriter (g.D.PoolDisks.worlds c.finish.new.self.disks) (entry_at c.finish.new.self.map) id t.to.cell (state.writers id))) (sym seen.1)
+    (subst NotGrowing (sym (t.to.says.0 refl)) tt)))
+    (crash_takes t) failed (λ trust known. refl) t.to.step
+    (λ e. subst (FailsBy (faulty_of g.D.Draft.Draft.place g.D.Draft.Draft.faults g.D.Reader.Reader.number g.D.Reader.Reader.faults) (mark_of g.D.PoolDisks.faults g.D.PoolDisks.next_number g.D.PoolDisks.moment c.args.self.now.pool.disks) (mark_of g.D.PoolDisks.faults g.D.PoolDisks.next_number g.D.PoolDisks.moment c.finish.new.self.disks) (state.writers id) (state.cells id) finish) (sym (t.to.says.0 refl)) (c.in-Err-finish.ensures.failed refl)) (λ e x. absurd cc) refl
 
 pub returns-in-Err-Memory-default-clause-step : goal.returns-in-Err-Memory-default-clause-step
 returns-in-Err-Memory-default-clause-step g c state standing =
@@ -95,11 +91,11 @@ returns-in-Err-Memory-default-clause-step g c state standing =
     let grows = at.grows ∙ ap (λ s. growing s None at.bytes (w.reserved - w.len)) (sym keeps.stamp) ∙ ap (λ n. growing new.stamp None at.bytes n) left in
     let seen = put_back f id new.id _ _ _ new (keeps.id ∙ at.of) c.in-Ok.ensures.taken c.put.ensures.put in
     carried_on (state.cells id)
-    (goes_on standing id (state.cells id) state.writers (subst (PoolStands told (g.D.PoolDisks.volume_count c.args.self.now.pool.disks) entries) (sym (with_cell-same state.cells id)) standing.pool)
+    (goes_on standing id (state.cells id) state.writers (subst (PoolStands told (g.D.PoolDisks.volume_count c.args.self.now.pool.disks) entries (found_at c.args.self.now.pool.map) false) (sym (with_cell-same state.cells id)) standing.pool)
     (λ x. x) (λ other apart. refl) seen.0 (λ other apart. refl)
     (subst (λ o. MatchOption o (NotGrowing (state.cells id)) (OpenWriter told entries id (state.cells id) (state.writers id))) (sym seen.1)
     (open_goes_on told told entries entries id (state.cells id) (state.cells id) (state.writers id) (f w) (f new) at.bytes at keeps (e.ensures.goes_on told entries at.bytes at.stands e.field-0-0-is) grows)))
-    memory (λ trust known. refl) (subst (λ x. Step unlimited x finish memory x) (sym at.grows) (memory_finish w.stamp (w.reserved - w.len) at.bytes))
+    (crash_only (λ sound. subst (PoolStands told (g.D.PoolDisks.volume_count c.args.self.now.pool.disks) entries (found_at c.args.self.now.pool.map) true) (sym (with_cell-same state.cells id)) sound)) memory (λ trust known. refl) (subst (λ x. Step unlimited x finish memory x) (sym at.grows) (memory_finish w.stamp (w.reserved - w.len) at.bytes))
     (λ bad. absurd cc) (λ same waits. absurd (grows_not (state.cells id) w.stamp at.bytes (w.reserved - w.len) at.grows waits)) refl
 
 pub returns-in-Err-Failed-default-clause-step : goal.returns-in-Err-Failed-default-clause-step
@@ -111,14 +107,13 @@ returns-in-Err-Failed-default-clause-step g c state standing =
     let at = writer_of_block _ _ _ (f w) (ap (option_map f) c.in-Ok.ensures.ok) (standing.writer id c.take.ensures.valid) in
     let key : e.writer.id ≡ id = e.ensures.id ∙ at.of in
     let there = c.fail_write.ensures.step state.cells w.stamp (w.reserved - w.len) at.bytes standing.pool (ap state.cells key ∙ at.grows) in
-    let t = subst (λ n. TakesStep n finish failed (λ cell. cell ≡ waiting)
-    state.cells (g.D.PoolDisks.worlds c.fail_write.new.self.disks) (g.D.PoolDisks.volume_count c.fail_write.new.self.disks) (entry_at c.fail_write.new.self.map)) key there in
+    let t = at_block key there in
     let seen = took f id _ _ c.in-Ok.ensures.taken in
-    carried_on t.cell
-    (goes_on standing id t.cell state.writers t.stands (λ x. subst IsSome (ap g.D.PoolDisks.worlds c.fail_write.ensures.disks) x) (λ other apart. c.fail_write.ensures.others other (λ same. apart (same ∙ key))) seen.0 (λ other apart. refl)
-    (subst (λ o. MatchOption o (NotGrowing t.cell) (OpenWriter (g.D.PoolDisks.worlds c.fail_write.new.self.disks) (entry_at c.fail_write.new.self.map) id t.cell (state.writers id))) (sym seen.1)
-    (subst NotGrowing (sym t.says) tt)))
-    failed (λ trust known. refl) t.step
-    (λ same. subst (FailsBy (faulty_of g.D.Draft.Draft.place g.D.Draft.Draft.faults g.D.Reader.Reader.number g.D.Reader.Reader.faults) (mark_of g.D.PoolDisks.faults g.D.PoolDisks.next_number g.D.PoolDisks.moment c.args.self.now.pool.disks) (mark_of g.D.PoolDisks.faults g.D.PoolDisks.next_number g.D.PoolDisks.moment c.fail_write.new.self.disks) (state.writers id) finish) (sym t.says)
+    carried_on t.to.cell
+    (goes_on standing id t.to.cell state.writers (t.to.stands _ standing.pool) (λ x. subst IsSome (ap g.D.PoolDisks.worlds c.fail_write.ensures.disks) x) (λ other apart. c.fail_write.ensures.others other (λ same. apart (same ∙ key))) seen.0 (λ other apart. refl)
+    (subst (λ o. MatchOption o (NotGrowing t.to.cell) (OpenWriter (g.D.PoolDisks.worlds c.fail_write.new.self.disks) (entry_at c.fail_write.new.self.map) id t.to.cell (state.writers id))) (sym seen.1)
+    (subst NotGrowing (sym t.to.says) tt)))
+    (crash_takes t) failed (λ trust known. refl) t.to.step
+    (λ same. subst (FailsBy (faulty_of g.D.Draft.Draft.place g.D.Draft.Draft.faults g.D.Reader.Reader.number g.D.Reader.Reader.faults) (mark_of g.D.PoolDisks.faults g.D.PoolDisks.next_number g.D.PoolDisks.moment c.args.self.now.pool.disks) (mark_of g.D.PoolDisks.faults g.D.PoolDisks.next_number g.D.PoolDisks.moment c.fail_write.new.self.disks) (state.writers id) (state.cells id) finish) (sym t.to.says)
     (inl (faulty_writer g.D.Draft.Draft.place g.D.Draft.Draft.faults (f w) (state.writers id) _ _ _ _ _ _ at.stands.block at.stands.meta at.block_given at.meta_given (e.ensures.failed e.field-0-0-is))))
     (λ bad x. absurd cc) refl

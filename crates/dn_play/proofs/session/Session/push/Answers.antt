@@ -1,12 +1,13 @@
-use Rattle.std.proofs.Common.{◌≡◌, ◌-◌, ◌++◌, inl, inr, Some, None, refl, sym, ◌∙◌, ap, subst, arith, option_map}
+use Rattle.std.proofs.Common.{true, ◌≡◌, ◌-◌, ◌++◌, inl, inr, Some, None, refl, sym, ◌∙◌, ap, subst, arith, option_map}
 use Rattle.std.specs.Prelude.{MatchOption}
 use Rattle.map_model.specs.Cells.{growing}
 use Rattle.map_model.specs.Steps.{Step, push, done, memory, over, no_writer}
-use Rattle.pool_state.specs.Answers.{unlimited, TakesStep}
-use Rattle.pool_state.specs.Books.{entry_at}
+use Rattle.pool_state.specs.Answers.{unlimited, StepsTo}
+use Rattle.pool_state.specs.Books.{entry_at, found_at}
+use Rattle.pool_state.specs.Stands.{PoolStands}
 use Rattle.pool_state.specs.Writers.{writer_of}
 use Rattle.dn_play.specs.Standing.{NotGrowing, OpenWriter}
-use Rattle.dn_play.proofs.Stepping.{goes_on, stays_on, carried_same, carried_on, seen_same, put_back, mapped_none, mapped_some, writer_of_block, no_writer_of_block, open_goes_on, everywhere}
+use Rattle.dn_play.proofs.Stepping.{crash_same, crash_only, goes_on, stays_on, carried_same, carried_on, seen_same, put_back, mapped_none, mapped_some, writer_of_block, no_writer_of_block, open_goes_on, everywhere}
 use Rattle.dn_play.proofs.Stepped.{no_push, over_push, memory_push, grows_not}
 use Rattle.dn_play.proofs.session.Session.push.Goals as goal
 
@@ -16,7 +17,7 @@ returns-in_default-clause-step g c state standing =
     let f = writer_of g.D.Draft.Draft.place g.D.Draft.Draft.bytes in
     let none = mapped_none _ _ (sym c.room_left.ensures.left ∙ c.in_default.is) in
     let rests = no_writer_of_block _ _ _ (ap (option_map f) none) (standing.writer id c.room_left.ensures.valid) in
-    carried_same standing no_writer (λ trust known. refl) (no_push (state.cells id) c.args.piece.now rests) (λ e. absurd cc) (λ e w. absurd cc) refl
+    carried_same standing (crash_same _ _ _) no_writer (λ trust known. refl) (no_push (state.cells id) c.args.piece.now rests) (λ e. absurd cc) (λ e w. absurd cc) refl
 
 pub returns-then-piece-left-clause-step : goal.returns-then-piece-left-clause-step
 returns-then-piece-left-clause-step g c state standing =
@@ -26,7 +27,7 @@ returns-then-piece-left-clause-step g c state standing =
     let some = mapped_some _ _ left (sym c.room_left.ensures.left ∙ c.in-Some.is) in
     let at = writer_of_block _ _ _ (f some.0) (ap (option_map f) some.1) (standing.writer id c.room_left.ensures.valid) in
     let cell : state.cells id ≡ growing some.0.stamp None at.bytes left = at.grows ∙ ap (λ n. growing some.0.stamp None at.bytes n) some.2 in
-    carried_same standing (over left) (λ trust known. refl)
+    carried_same standing (crash_same _ _ _) (over left) (λ trust known. refl)
     (subst (λ x. Step unlimited x (push c.args.piece.now) (over left) x) (sym cell) (over_push some.0.stamp left at.bytes c.args.piece.now (omega arith)))
     (λ e. absurd cc) (λ e w. absurd cc) refl
 
@@ -43,7 +44,7 @@ returns-in-Err-clause-step g c state standing =
       | inr wanting ↦ wanting.0
     ] in
     carried_same (stays_on standing standing.pool (λ t. t) (λ other. refl) (seen_same f _ _ c.in-Err.ensures.same))
-    memory (λ trust known. is_memory)
+    (crash_same _ _ _) memory (λ trust known. is_memory)
     (subst (λ x. Step unlimited x (push c.args.piece.now) memory x) (sym cell) (memory_push some.0.stamp left at.bytes c.args.piece.now (omega arith)))
     (λ e. absurd cc) (λ e w. absurd (grows_not (state.cells id) some.0.stamp at.bytes left cell w)) refl
 
@@ -57,15 +58,17 @@ returns-in-Ok-push-clause-step g c state standing =
     let entries = entry_at c.args.self.now.pool.map in
     let at = writer_of_block _ _ _ (f w) (ap (option_map f) c.in-Ok.ensures.ok) (standing.writer id c.take.ensures.valid) in
     let grows : state.cells w.id ≡ growing w.stamp None at.bytes (w.reserved - w.len) = ap state.cells at.of ∙ at.grows in
-    let there = c.in-Ok-push.ensures.step told _ entries state.cells at.bytes standing.pool at.stands grows in
-    let t = subst (λ n. TakesStep n (push c.args.piece.now) done (λ cell. cell ≡ growing new.stamp None (at.bytes ++ c.args.piece.now) (new.reserved - new.len)) state.cells told (g.D.PoolDisks.volume_count c.args.self.now.pool.disks) entries) at.of there in
+    let found = found_at c.args.self.now.pool.map in
+    let there = c.in-Ok-push.ensures.step told _ entries found state.cells at.bytes standing.pool at.stands grows in
+    let t = subst (λ n. StepsTo n (push c.args.piece.now) done (λ cell. cell ≡ growing new.stamp None (at.bytes ++ c.args.piece.now) (new.reserved - new.len)) state.cells
+    (PoolStands told (g.D.PoolDisks.volume_count c.args.self.now.pool.disks) entries found) (PoolStands told (g.D.PoolDisks.volume_count c.args.self.now.pool.disks) entries found)) at.of there in
     let seen = put_back f id new.id _ _ _ new (c.in-Ok-push.ensures.keeps.id ∙ at.of) c.in-Ok.ensures.taken c.put.ensures.put in
     carried_on t.cell
-    (goes_on standing id t.cell state.writers t.stands (λ x. x) (λ other apart. refl) seen.0 (λ other apart. refl)
+    (goes_on standing id t.cell state.writers (t.stands _ standing.pool) (λ x. x) (λ other apart. refl) seen.0 (λ other apart. refl)
     (subst (λ o. MatchOption o (NotGrowing t.cell) (OpenWriter told entries id t.cell (state.writers id))) (sym seen.1)
     (open_goes_on told told entries entries id (state.cells id) t.cell (state.writers id) (f w) (f new) (at.bytes ++ c.args.piece.now) at c.in-Ok-push.ensures.keeps
     (c.in-Ok-push.ensures.pushed told entries at.bytes at.stands) t.says)))
-    done (λ trust known. refl) t.step (λ e. absurd cc) (λ e x. absurd cc) refl
+    (crash_only (t.stands true)) done (λ trust known. refl) t.step (λ e. absurd cc) (λ e x. absurd cc) refl
 
 pub returns-in-Err-push-clause-step : goal.returns-in-Err-push-clause-step
 returns-in-Err-push-clause-step g c state standing =
@@ -81,6 +84,6 @@ returns-in-Err-push-clause-step g c state standing =
     let seen = put_back f id new.id _ _ _ new (c.in-Err-push.ensures.keeps.id ∙ one.of) c.in-Ok.ensures.taken c.put-in-Err-push.ensures.put in
     carried_same (stays_on standing standing.pool (λ t. t) (λ other. refl)
     (everywhere id _ _ seen.0 (seen.1 ∙ ap Some c.in-Err-push.ensures.same ∙ sym (ap (option_map f) c.in-Ok.ensures.ok))))
-    memory (λ trust known. refl)
+    (crash_same _ _ _) memory (λ trust known. refl)
     (subst (λ x. Step unlimited x (push c.args.piece.now) memory x) (sym cell) (memory_push some.0.stamp left at.bytes c.args.piece.now (omega arith)))
     (λ e. absurd cc) (λ e x. absurd (grows_not (state.cells id) some.0.stamp at.bytes left cell x)) refl

@@ -1,10 +1,16 @@
-use Rattle.std.proofs.Common.{◌≡◌, refl, ◌∙◌, ap, subst}
+use Rattle.std.proofs.Common.{◌≡◌, Some, None, false, inr, refl, sym, ◌∙◌, ap, subst}
 use Rattle.volume_layout.proofs.Reading.{is_stamp-IsStamp}
-use Rattle.map_model.specs.Slots.{block, meta, writing_block, writing_meta, publish_in}
+use Rattle.map_model.specs.Cells.{Replica, final, unsure}
+use Rattle.map_model.specs.Steps.{Step, finish, failed, done}
+use Rattle.pool_state.specs.Answers.{unlimited}
+use Rattle.map_model.specs.Slots.{View, block, meta, writing_block, writing_meta, publish_in}
 use Rattle.map_model.specs.Tenures.{Fails, meta_failed, block_failed}
 use Rattle.pool_state.specs.Writers.{meta_header}
-use Rattle.pool_state.proofs.Reaching.{Then, reaches_then}
-use Rattle.pool_state.proofs.Ends.{reaches_published_at, reaches_publish_at, same_told, meta_stands, block_stands, finish_doubts, finish_ends}
+use Rattle.pool_state.specs.Reaching.{Then}
+use Rattle.pool_state.proofs.Reaching.{reaches_then}
+use Rattle.pool_state.proofs.Changing.{same_found}
+use Rattle.pool_state.proofs.Showing.{begins, calls, shown, takes}
+use Rattle.pool_state.proofs.Ends.{reaches_published_at, reaches_publish_at, same_told, finish_step, meta_stands, block_stands, doubt_passes, new_passes, final_passes, finish_doubts, finish_ends}
 use Rattle.pool_state.proofs.pool_record.Pool.finish.Goals as goal
 
 pub publish-requires : goal.publish-requires
@@ -13,12 +19,20 @@ publish-requires g c = record { stands = meta_stands c.requires.stands.1 _ _ c.r
 pub returns-in-Err-clause-step : goal.returns-in-Err-clause-step
 returns-in-Err-clause-step g c cells bytes left stands belongs grows =
     let p = c.args.pair in
-    finish_doubts stands _ bytes belongs left grows _ _ _ _ c.in-Err.ensures.volumes
-    (λ before after. Fails before (publish_in before p.vol (writing_meta p.stamp) (meta p.stamp) meta_header) after)
-    (reaches_publish_at p.id p.vol (writing_meta p.stamp) (meta p.stamp) belongs.meta_number meta_header _ belongs.valid.0
+    let new : Replica = record { stamp = p.stamp; bytes = bytes } in
+    let step : View → View → Type 0 = λ before after. Fails before (publish_in before p.vol (writing_meta p.stamp) (meta p.stamp) meta_header) after in
+    let reaches = reaches_publish_at p.id p.vol (writing_meta p.stamp) (meta p.stamp) belongs.meta_number meta_header _ belongs.valid.0
     (is_stamp-IsStamp p.stamp belongs.valid.1) (is_stamp-IsStamp p.stamp belongs.valid.1) _ _ belongs.meta (c.as_str.ensures ∙ c.meta_path.ensures) _ _
-    (λ told. same_told _ _ (belongs.meta_bytes told)) c.in-Err.ensures.worlds)
-    c.set_state.ensures.changed (λ e. refl, λ e. absurd cc) (λ before after stepped. meta_failed after stepped)
+    (λ told. same_told _ _ (belongs.meta_bytes told)) c.in-Err.ensures.worlds in
+    takes (unsure None (Some new) false)
+    (subst (λ cell. Step unlimited cell finish failed (unsure None (Some new) false)) (sym grows) (finish_step p.stamp left bytes failed (unsure None (Some new) false) (inr refl)))
+    (λ e. refl, λ e. absurd cc)
+    (λ sound old. (
+      finish_doubts old _ bytes belongs left grows step (λ before after stepped. meta_failed after stepped) _ _ _ _ c.in-Err.ensures.volumes (same_found _ _ c.set_state.ensures.found)
+          reaches c.set_state.ensures.changed,
+      calls _ (begins _ _) c.in-Err.ensures.time.nothing_else (shown old p.id belongs.valid.0 step _ reaches (unsure None (Some new) false)
+          (doubt_passes old _ bytes belongs left grows step (λ before after stepped. meta_failed after stepped))),
+    )) stands
 
 pub publish-requires-2 : goal.publish-requires-2
 publish-requires-2 g c =
@@ -34,29 +48,55 @@ publish-requires-2 g c =
 pub returns-in-Err-publish-clause-step : goal.returns-in-Err-publish-clause-step
 returns-in-Err-publish-clause-step g c cells bytes left stands belongs grows =
     let p = c.args.pair in
-    finish_doubts stands _ bytes belongs left grows _ _ _ _ (c.in-Err-publish.ensures.volumes ∙ c.in-Ok.ensures.volumes)
-    (Then (λ before after. after ≡ publish_in before p.vol (writing_meta p.stamp) (meta p.stamp) meta_header) (λ before after. Fails before (publish_in before p.vol writing_block block bytes) after))
-    (reaches_then p.id _ _ _ _ _
-    (reaches_published_at p.id p.vol (writing_meta p.stamp) (meta p.stamp) belongs.meta_number meta_header _ belongs.valid.0
+    let new : Replica = record { stamp = p.stamp; bytes = bytes } in
+    let one : View → View → Type 0 = λ before after. after ≡ publish_in before p.vol (writing_meta p.stamp) (meta p.stamp) meta_header in
+    let step : View → View → Type 0 = Then one (λ before after. Fails before (publish_in before p.vol writing_block block bytes) after) in
+    let first = reaches_published_at p.id p.vol (writing_meta p.stamp) (meta p.stamp) belongs.meta_number meta_header _ belongs.valid.0
     (is_stamp-IsStamp p.stamp belongs.valid.1) (is_stamp-IsStamp p.stamp belongs.valid.1) _ _ belongs.meta (c.as_str.ensures ∙ c.meta_path.ensures) _ _
-    (λ told. same_told _ _ (belongs.meta_bytes told)) c.in-Ok.ensures.ok)
+    (λ told. same_told _ _ (belongs.meta_bytes told)) c.in-Ok.ensures.ok in
+    let reaches = reaches_then p.id _ _ _ _ _ first
     (reaches_publish_at p.id p.vol writing_block block belongs.block_number bytes _ belongs.valid.0
     refl refl _ _ belongs.block (c.as_str-2.ensures ∙ c.block_path.ensures) _ _
-    (λ told. same_told _ _ (belongs.block_bytes (c.in-Ok.ensures.worlds.honest.1 told))) c.in-Err-publish.ensures.worlds))
-    c.set_state-in-Err-publish.ensures.changed (λ e. refl, λ e. absurd cc)
-    (λ before after stepped. block_failed after (subst (λ v. Fails v (publish_in v p.vol writing_block block bytes) after) stepped.1 stepped.2))
+    (λ told. same_told _ _ (belongs.block_bytes (c.in-Ok.ensures.worlds.honest.1 told))) c.in-Err-publish.ensures.worlds) in
+    takes (unsure None (Some new) false)
+    (subst (λ cell. Step unlimited cell finish failed (unsure None (Some new) false)) (sym grows) (finish_step p.stamp left bytes failed (unsure None (Some new) false) (inr refl)))
+    (λ e. refl, λ e. absurd cc)
+    (λ sound old. (
+      finish_doubts old _ bytes belongs left grows step
+          (λ before after stepped. block_failed after (subst (λ v. Fails v (publish_in v p.vol writing_block block bytes) after) stepped.1 stepped.2))
+          _ _ _ _ (c.in-Err-publish.ensures.volumes ∙ c.in-Ok.ensures.volumes) (same_found _ _ c.set_state-in-Err-publish.ensures.found)
+          reaches c.set_state-in-Err-publish.ensures.changed,
+      calls _ (calls _ (begins _ _) c.in-Ok.ensures.time.nothing_else (shown old p.id belongs.valid.0 one _ first (unsure None (Some new) false)
+          (doubt_passes old _ bytes belongs left grows one (λ before after stepped. meta_failed after (inr stepped)))))
+          c.in-Err-publish.ensures.time.nothing_else (shown old p.id belongs.valid.0 step _ reaches (unsure None (Some new) false)
+          (doubt_passes old _ bytes belongs left grows step
+          (λ before after stepped. block_failed after (subst (λ v. Fails v (publish_in v p.vol writing_block block bytes) after) stepped.1 stepped.2)))),
+    )) stands
 
 pub returns-clause-step : goal.returns-clause-step
 returns-clause-step g c cells bytes left stands belongs grows =
     let p = c.args.pair in
-    finish_ends stands _ bytes belongs left grows _ _ _ _ (c.in-Ok-publish.ensures.volumes ∙ c.in-Ok.ensures.volumes)
-    (Then (λ before after. after ≡ publish_in before p.vol (writing_meta p.stamp) (meta p.stamp) meta_header) (λ before after. after ≡ publish_in before p.vol writing_block block bytes))
-    (reaches_then p.id _ _ _ _ _
-    (reaches_published_at p.id p.vol (writing_meta p.stamp) (meta p.stamp) belongs.meta_number meta_header _ belongs.valid.0
+    let new : Replica = record { stamp = p.stamp; bytes = bytes } in
+    let one : View → View → Type 0 = λ before after. after ≡ publish_in before p.vol (writing_meta p.stamp) (meta p.stamp) meta_header in
+    let step : View → View → Type 0 = Then one (λ before after. after ≡ publish_in before p.vol writing_block block bytes) in
+    let first = reaches_published_at p.id p.vol (writing_meta p.stamp) (meta p.stamp) belongs.meta_number meta_header _ belongs.valid.0
     (is_stamp-IsStamp p.stamp belongs.valid.1) (is_stamp-IsStamp p.stamp belongs.valid.1) _ _ belongs.meta (c.as_str.ensures ∙ c.meta_path.ensures) _ _
-    (λ told. same_told _ _ (belongs.meta_bytes told)) c.in-Ok.ensures.ok)
+    (λ told. same_told _ _ (belongs.meta_bytes told)) c.in-Ok.ensures.ok in
+    let reaches = reaches_then p.id _ _ _ _ _ first
     (reaches_published_at p.id p.vol writing_block block belongs.block_number bytes _ belongs.valid.0
     refl refl _ _ belongs.block (c.as_str-2.ensures ∙ c.block_path.ensures) _ _
-    (λ told. same_told _ _ (belongs.block_bytes (c.in-Ok.ensures.worlds.honest.1 told))) c.in-Ok-publish.ensures.ok))
-    c.change.ensures (λ e. absurd cc, λ e. refl)
-    (λ before after stepped. stepped.2 ∙ ap (λ v. publish_in v p.vol writing_block block bytes) stepped.1)
+    (λ told. same_told _ _ (belongs.block_bytes (c.in-Ok.ensures.worlds.honest.1 told))) c.in-Ok-publish.ensures.ok) in
+    takes (final new)
+    (subst (λ cell. Step unlimited cell finish done (final new)) (sym grows) (finish_step p.stamp left bytes done (final new) (refl, refl)))
+    (λ e. absurd cc, λ e. refl)
+    (λ sound old. (
+      finish_ends old _ bytes belongs left grows step
+          (λ before after stepped. stepped.2 ∙ ap (λ v. publish_in v p.vol writing_block block bytes) stepped.1)
+          _ _ _ _ (c.in-Ok-publish.ensures.volumes ∙ c.in-Ok.ensures.volumes) (same_found _ _ c.change.ensures.found)
+          reaches c.change.ensures.changed,
+      calls _ (calls _ (begins _ _) c.in-Ok.ensures.time.nothing_else (shown old p.id belongs.valid.0 one _ first (final new)
+          (new_passes old _ bytes belongs left grows one (λ before after stepped. meta_failed after (inr stepped)))))
+          c.in-Ok-publish.ensures.time.nothing_else (shown old p.id belongs.valid.0 step _ reaches (final new)
+          (final_passes old _ bytes belongs left grows step
+          (λ before after stepped. stepped.2 ∙ ap (λ v. publish_in v p.vol writing_block block bytes) stepped.1))),
+    )) stands

@@ -1,0 +1,39 @@
+-- What the images that a crash can leave hold: after each line, and at every moment.
+use Rattle.std.specs.Prelude.{ℕ, ◌⊎◌, List, [], ◌∷◌}
+use Rattle.disk_model.specs.Files.{Files}
+use Rattle.disk_model.specs.Moments.{AddsOnly}
+use Rattle.map_model.specs.Cells.{Cells}
+use Rattle.map_model.specs.Allows.{AllowsImage}
+use Rattle.map_model.specs.Sound.{IsSound}
+use Rattle.pool_state.specs.Answers.{AllowedByEither}
+use Rattle.dn_play.specs.State.{RunState, Mark, Turn, last_state}
+
+-- the cells of this state allow the image, or those after one of the lines
+abbrev pub AllowedByOne : RunState → List Turn → Files → Type 0
+AllowedByOne state [] image = AllowsImage state.cells image
+AllowedByOne state (turn ∷ turns) image = AllowsImage state.cells image ⊎ AllowedByOne turn.state turns image
+
+-- Each image that some moment from this one on could have left is allowed by the cells of this state, or by those after one of
+-- the lines. `since t image` says that some moment from t on could have left the image.
+abbrev pub AllowedSince : (since : ℕ → Files → Type 0) → ℕ → RunState → List Turn → Type 0
+AllowedSince since t state turns = (image : Files) → since t image → AllowedByOne state turns image
+
+-- the same since each line: by the cells after it, or after a later one
+abbrev pub AllowedSinceEach : (since : ℕ → Files → Type 0) → Mark → RunState → List Turn → Type 0
+AllowedSinceEach since mark state [] = AllowedSince since mark.moment state []
+AllowedSinceEach since mark state (turn ∷ turns) =
+    AllowedSince since mark.moment state (turn ∷ turns) × AllowedSinceEach since turn.mark turn.state turns
+
+-- What a crash can leave while one command is carried out: the cells before it or after it allow it. `Sound cells` says that
+-- the pool stands for the cells with meta files that match.
+pub record CrashSafe (before after : Cells) (Sound SoundNow : Cells → Type 0) (past since : ℕ → Files → Type 0) : Type 0 where
+  pub images : AddsOnly past since (AllowedByEither before after)
+  pub sound : Sound before → SoundNow after
+  pub sound_images : Sound before → AddsOnly past since IsSound
+
+-- What a crash can leave while lines are carried out.
+pub record LinesCrashSafe (before : Mark) (state : RunState) (turns : List Turn) (Sound SoundNow : Cells → Type 0) (past since : ℕ → Files → Type 0) : Type 0 where
+  pub images : AddsOnly past since (AllowedByOne state turns)
+  pub each : AllowedSinceEach since before state turns
+  pub sound : Sound state.cells → SoundNow (last_state state turns).cells
+  pub sound_images : Sound state.cells → AddsOnly past since IsSound

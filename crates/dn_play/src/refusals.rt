@@ -1,0 +1,32 @@
+//! Why a start or a deletion was refused, as a reply.
+ghost use Rattle.std.specs.Prelude.{◌≡◌};
+ghost use Rattle.dn_play.specs.Replies.{refusal_reply, deletion_reply};
+
+use pool_state::{DeleteFault, StartFault};
+use script_lang::reply::Reply;
+
+/// Why a start was refused, as a reply.
+pub fn refusal_of(fault: StartFault) -> Reply
+    ensures { result ≡ refusal_reply fault }
+{
+    match fault {
+        StartFault::Exists => Reply::Exists,
+        StartFault::None => Reply::NoBlock,
+        StartFault::Writing => Reply::Writing,
+        StartFault::Waiting => Reply::Waiting,
+        StartFault::Unsure => Reply::Unsure,
+        StartFault::Failed => Reply::Failed,
+        StartFault::Memory => Reply::Memory,
+    }
+}
+
+/// Why a block was not deleted, as a reply.
+pub fn delete_refusal_of(fault: DeleteFault) -> Reply
+    ensures { result ≡ deletion_reply fault }
+{
+    match fault {
+        DeleteFault::None => Reply::NoBlock,
+        DeleteFault::Writing => Reply::Writing,
+        DeleteFault::Failed => Reply::Failed,
+    }
+}

@@ -1,0 +1,20 @@
+use Rattle.std.proofs.Common.{◌≡◌, ◌++◌, ℕ, List, All}
+use Rattle.std.specs.Ordering.{nat_cmp}
+use Rattle.std.specs.Map.{lookup}
+use Rattle.std.specs.BTreeMap.{is_at, IsOrdered}
+use Rattle.volume_layout.specs.Paths.{IsBlockId}
+use Rattle.pool_survey.specs.declared.found.FoundFiles.{FoundFiles}
+use Rattle.pool_state.specs.Books.{entry_at, found_at}
+use Rattle.pool_open.specs.Found.{SaysFound}
+use Rattle.pool_open.specs.Looking.{OnlyLooks}
+use Rattle.pool_open.proofs.books.make_books.Given as goal
+
+abbrev pub invariant-loop-id : goal.invariant-loop-id
+invariant-loop-id g l = record {
+  ids : All (λ entry. IsBlockId entry.0) l.id-iterator;
+  ordered : IsOrdered nat_cmp l.blocks;
+  passed : List (ℕ × FoundFiles);
+  split : passed ++ l.id-iterator ≡ l.blocks.entries;
+  says : (id : ℕ) → SaysFound (g.D.PoolDisks.worlds l.disks) id (lookup (is_at (nat_cmp id)) passed) (entry_at l.books id) (found_at l.books id);
+  looks : OnlyLooks g.D.PoolDisks.worlds g.D.PoolDisks.faults g.D.PoolDisks.next_number g.D.PoolDisks.moment g.D.PoolDisks.volume_count g.D.PoolDisks.left_since l.fn.disks l.disks;
+}

@@ -1,0 +1,16 @@
+use Rattle.std.proofs.Common.{◌≡◌, ◌<◌, ℕ, [], get_or}
+use Rattle.disk_model.specs.Told.{InEachWorld}
+use Rattle.disk_model.specs.Moments.{AddsOnly}
+use Rattle.map_model.specs.Slots.{empty, slot_at}
+use Rattle.pool_state.specs.Stands.{GoesOn}
+use Rattle.pool_open.specs.Plan.{texts}
+use Rattle.pool_open.specs.Clearing.{ComesCleared, LeftCleared}
+use Rattle.pool_open.proofs.clearing.clear_paths.Given as goal
+
+abbrev pub invariant-loop-at : goal.invariant-loop-at
+invariant-loop-at g l = record {
+  some : InEachWorld (g.D.PoolDisks.worlds l.disks) (ComesCleared (texts l.paths) (g.D.PoolDisks.worlds l.fn.disks));
+  clear : InEachWorld (g.D.PoolDisks.worlds l.disks) (λ world. (k : ℕ) → k < l.at → slot_at world 1 (get_or (texts l.paths) k []) ≡ empty);
+  images : AddsOnly (g.D.PoolDisks.left_since l.fn.disks) (g.D.PoolDisks.left_since l.disks) (LeftCleared (texts l.paths) (g.D.PoolDisks.worlds l.fn.disks));
+  goes_on : GoesOn g.D.PoolDisks.worlds g.D.PoolDisks.faults g.D.PoolDisks.next_number g.D.PoolDisks.moment g.D.PoolDisks.volume_count l.fn.disks l.disks;
+}

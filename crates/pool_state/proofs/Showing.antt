@@ -1,0 +1,162 @@
+-- What a crash can leave while a tenure changes one block.
+use Rattle.std.proofs.Common.{◌≡◌, ◌⊎◌, inl, inr, ℕ, Bool, true, false, Option, List, sym, subst}
+use Rattle.std.proofs.lemmas.Bool.{cases_eq, eq-eqb, ne_eqb}
+use Rattle.disk_model.specs.Files.{Files}
+use Rattle.disk_model.specs.Worlds.{World}
+use Rattle.disk_model.specs.Told.{IsWorldOf, CanLeave}
+use Rattle.disk_model.specs.Moments.{AddsOnly}
+use Rattle.volume_layout.specs.Paths.{IsBlockId}
+use Rattle.map_model.specs.World.{DraftsAside}
+use Rattle.map_model.specs.Cells.{Replica, Cell, Cells}
+use Rattle.map_model.specs.Copies.{BlockFiles, block_files}
+use Rattle.map_model.specs.Allows.{Allows, AllowsFiles, AllowsImage}
+use Rattle.map_model.specs.Sound.{MatchesIf, HasSoundCopies, IsSoundBy}
+use Rattle.map_model.specs.Slots.{View, files_in, view_of}
+use Rattle.map_model.specs.Stands.{Leftover, BlockBooks, BlockStands}
+use Rattle.map_model.specs.Steps.{Command, Reply, Step}
+use Rattle.map_model.proofs.Bridge.{image_files}
+use Rattle.map_model.proofs.LawProofs.{block_allows}
+use Rattle.map_model.proofs.Soundness.{block_is_sound}
+use Rattle.pool_state.specs.declared.entry.Entry.{Entry}
+use Rattle.pool_state.specs.Books.{block_books}
+use Rattle.pool_state.specs.Reaching.{ComesFrom, Reaches}
+use Rattle.pool_state.specs.Answers.{unlimited, AllowedByEither, TakesStep, IsQuiet}
+use Rattle.pool_state.specs.Stands.{with_cell, PoolStands}
+
+-- an image is allowed by the cells before or after, and its copies match
+pub record Shown (sound : Bool) (before after : Cells) (image : Files) : Type 0 where
+  pub allowed : AllowedByEither before after image
+  pub matching : IsSoundBy (MatchesIf sound) image
+
+-- of images, no more is added at the beginning
+pub begins : (past : ℕ → Files → Type 0) (P : Files → Type 0) → AddsOnly past past P
+begins past P t image s = inl s
+
+-- a call adds what can be left after it
+pub calls : {past mid since : ℕ → Files → Type 0} {P : Files → Type 0} (told : Option (List World)) → AddsOnly past mid P →
+    ((t : ℕ) (image : Files) → since t image → mid t image ⊎ CanLeave told image) → ((image : Files) → CanLeave told image → P image) → AddsOnly past since P
+calls told adds time shows t image s = elim (time t image s) [
+  | inl earlier ↦ adds t image earlier
+  | inr now ↦ inr (shows image now)
+]
+
+-- what is added has a weaker property
+pub adds_less : {past since : ℕ → Files → Type 0} {P Q : Files → Type 0} → AddsOnly past since P → ((image : Files) → P image → Q image) → AddsOnly past since Q
+adds_less adds weaken t image s = elim (adds t image s) [
+  | inl earlier ↦ inl earlier
+  | inr now ↦ inr (weaken image now)
+]
+
+-- two tenures, one after the other
+pub adds_join : {past mid since : ℕ → Files → Type 0} {P : Files → Type 0} → AddsOnly past mid P → AddsOnly mid since P → AddsOnly past since P
+adds_join first second t image s = elim (second t image s) [
+  | inl earlier ↦ first t image earlier
+  | inr now ↦ inr now
+]
+
+module _ {told : Option (List World)} {volumes : ℕ} {entries : ℕ → Option Entry} {found : ℕ → List Leftover} {sound : Bool} {cells : Cells}
+    (stands : PoolStands told volumes entries found sound cells) (id : ℕ) (valid : IsBlockId id) where
+  -- At a moment the block's files stand for some cell, and what it allows is allowed by the cell before or by this one.
+  abbrev pub Passes : (View → View → Type 0) → Cell → Type 0
+  Passes step cell = (before after : View) → step before after → BlockStands (MatchesIf sound) before (block_books (entries id) (found id)) (cells id) →
+      (books : BlockBooks) × (mid : Cell) × BlockStands (MatchesIf sound) after books mid × ((read : Option Replica) → Allows mid read → Allows (cells id) read ⊎ Allows cell read)
+
+  -- at the end they stand for the cell itself
+  pub passes_end : (step : View → View → Type 0) (cell : Cell) (books : BlockBooks) →
+      ((before after : View) → step before after → BlockStands (MatchesIf sound) before (block_books (entries id) (found id)) (cells id) → BlockStands (MatchesIf sound) after books cell) →
+      Passes step cell
+  passes_end step cell books own before after stepped was = (books, cell, own before after stepped was, λ read allows. inr allows)
+
+  -- where nothing changes
+  pub stays_passes : Passes (λ before after. after ≡ before) (cells id)
+  stays_passes before after stepped was = (
+    block_books (entries id) (found id),
+    cells id,
+    subst (λ (v : View). BlockStands (MatchesIf sound) v (block_books (entries id) (found id)) (cells id)) (sym stepped) was,
+    λ read allows. inl allows,
+  )
+
+  module _ (step : View → View → Type 0) (told' : Option (List World)) (reaches : Reaches id step told told') where
+    came : (world : World) → IsWorldOf told' world → ComesFrom id step told world
+    came world is = reaches.each world is
+
+    aside_then : (world : World) → IsWorldOf told' world → DraftsAside world
+    aside_then world is = let from : ComesFrom id step told world = came world is in from.aside (stands.aside from.was from.is)
+
+    -- another block's files allow what its cell allows, and match
+    others_allow : (world : World) (is : IsWorldOf told' world) (other : ℕ) → IsBlockId other → (id ≡ other → ⊥) →
+        AllowsFiles (cells other) (files_in (view_of world other)) × HasSoundCopies (MatchesIf sound) (files_in (view_of world other))
+    others_allow world is other valid_other apart =
+        let from : ComesFrom id step told world = came world is in
+        let own = stands.blocks from.was from.is other valid_other in
+        let books : BlockBooks = block_books (entries other) (found other) in
+        subst (λ (v : View). AllowsFiles (cells other) (files_in v) × HasSoundCopies (MatchesIf sound) (files_in v)) (sym (from.others other valid_other apart))
+        (block_allows (MatchesIf sound) (view_of from.was other) books (cells other) own, block_is_sound (MatchesIf sound) (view_of from.was other) books (cells other) own)
+
+    module _ (cell : Cell) (passes : Passes step cell) where
+      own_allow : (world : World) (is : IsWorldOf told' world) →
+          (AllowsFiles (cells id) (files_in (view_of world id)) ⊎ AllowsFiles cell (files_in (view_of world id))) × HasSoundCopies (MatchesIf sound) (files_in (view_of world id))
+      own_allow world is =
+          let from : ComesFrom id step told world = came world is in
+          let at = passes (view_of from.was id) (view_of world id) from.stepped (stands.blocks from.was from.is id valid) in
+          let allows = block_allows (MatchesIf sound) (view_of world id) at.0 at.1 at.2 in (
+            elim (at.3 allows.read allows.allowed) [
+              | inl before ↦ inl (record { read = allows.read; reads = allows.reads; allowed = before })
+              | inr after ↦ inr (record { read = allows.read; reads = allows.reads; allowed = after })
+            ],
+            block_is_sound (MatchesIf sound) (view_of world id) at.0 at.1 at.2,
+          )
+
+      -- what a crash can leave at this moment
+      pub shown : (image : Files) → CanLeave told' image → Shown sound cells (with_cell cells id cell) image
+      shown image leaves =
+          let world : World = leaves.0 in
+          let is = leaves.1 in
+          let files : (other : ℕ) → block_files image other ≡ files_in (view_of world other) = λ other. image_files world image other (aside_then world is) leaves.2 in
+          let own = own_allow world is in
+          let at : (c : Cell) → AllowsFiles c (files_in (view_of world id)) → (other : ℕ) → IsBlockId other →
+          AllowsFiles (with_cell cells id c other) (block_files image other) = λ c allows other valid_other.
+          subst (λ (f : BlockFiles). AllowsFiles (with_cell cells id c other) f) (sym (files other))
+          (elim (cases_eq other id) [
+            | inl same ↦ rw (eq-eqb other id same) (subst (λ n. AllowsFiles c (files_in (view_of world n))) (sym same) allows)
+            | inr apart ↦ rw (ne_eqb other id apart) (others_allow world is other valid_other (λ e. apart (sym e))).0
+          ]) in
+          record {
+            allowed = elim own.0 [
+              | inl before ↦ inl (λ other valid_other. elim (cases_eq other id) [
+                | inl same ↦ subst (λ (f : BlockFiles). AllowsFiles (cells other) f) (sym (files other)) (subst (λ n. AllowsFiles (cells n) (files_in (view_of world n))) (sym same) before)
+                | inr apart ↦ subst (λ (f : BlockFiles). AllowsFiles (cells other) f) (sym (files other)) (others_allow world is other valid_other (λ e. apart (sym e))).0
+              ])
+              | inr after ↦ inr (at cell after)
+            ];
+            matching = λ other valid_other. subst (λ (f : BlockFiles). HasSoundCopies (MatchesIf sound) f) (sym (files other))
+                (elim (cases_eq other id) [
+                  | inl same ↦ subst (λ n. HasSoundCopies (MatchesIf sound) (files_in (view_of world n))) (sym same) own.1
+                  | inr apart ↦ (others_allow world is other valid_other (λ e. apart (sym e))).1
+                ]);
+          }
+
+-- A step of the cells, from what holds whether the disks began sound or not.
+pub takes : {id : ℕ} {command : Command} {answer : Reply} {Says : Cell → Type 0} {cells : Cells} {Stood StandsFor : Bool → Cells → Type 0} {past since : ℕ → Files → Type 0}
+    (cell : Cell) → Step unlimited (cells id) command answer cell → Says cell →
+    ((sound : Bool) → Stood sound cells → StandsFor sound (with_cell cells id cell) × AddsOnly past since (Shown sound cells (with_cell cells id cell))) →
+    Stood false cells → TakesStep id command answer Says cells Stood StandsFor past since
+takes cell step says run stood = record {
+  to = record { cell = cell; step = step; says = says; stands = λ sound old. (run sound old).0 };
+  images = adds_less (run false stood).1 (λ image shows. shows.allowed);
+  sound_images = λ old. adds_less (run true old).1 (λ image shows. shows.matching);
+}
+
+-- an image that the cells allow, and that matches
+pub record Quiet (sound : Bool) (cells : Cells) (image : Files) : Type 0 where
+  pub allowed : AllowsImage cells image
+  pub matching : IsSoundBy (MatchesIf sound) image
+
+pub rests : {cells : Cells} {Stood StandsFor : Bool → Cells → Type 0} {past since : ℕ → Files → Type 0} →
+    ((sound : Bool) → Stood sound cells → StandsFor sound cells × AddsOnly past since (Quiet sound cells)) →
+    Stood false cells → IsQuiet cells Stood StandsFor past since
+rests run stood = record {
+  stands = λ sound old. (run sound old).0;
+  images = adds_less (run false stood).1 (λ image shows. shows.allowed);
+  sound_images = λ old. adds_less (run true old).1 (λ image shows. shows.matching);
+}

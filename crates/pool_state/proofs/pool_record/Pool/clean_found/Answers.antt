@@ -1,0 +1,30 @@
+use Rattle.std.proofs.Common.{◌∙◌, arith}
+use Rattle.pool_state.proofs.QuietRemovals.{both_quiet}
+use Rattle.pool_state.proofs.pool_record.Pool.clean_found.Goals as goal
+
+pub returns-in_err-clean_one-clause-quiet : goal.returns-in_err-clean_one-clause-quiet
+returns-in_err-clean_one-clause-quiet g c cells stands =
+    let was = c.loop.invariant.quiet cells stands in
+    both_quiet was (c.clean_one.ensures.quiet cells (was.stands _ stands))
+
+pub loop-preserved : goal.loop-preserved
+loop-preserved g c = record {
+  stands = let some = c.requires.stands in
+      let was = c.loop.invariant.quiet some.0 some.1 in
+      (some.0, (c.clean_one.ensures.quiet some.0 (was.stands _ some.1)).stands _ (was.stands _ some.1));
+  quiet = λ cells stands.
+      let was = c.loop.invariant.quiet cells stands in
+      both_quiet was (c.clean_one.ensures.quiet cells (was.stands _ stands));
+  fewer = omega (arith, c.loop.invariant.fewer, c.in_ok-clean_one.ensures.fewer);
+  entries = λ other. c.clean_one.ensures.entries other ∙ c.loop.invariant.entries other;
+  goes_on =
+      let was = c.loop.invariant.goes_on in
+      let now = c.clean_one.ensures.goes_on in
+      record {
+        honest = (λ told. now.honest.0 (was.honest.0 told), λ told. was.honest.1 (now.honest.1 told));
+        faults = omega (arith, was.faults, now.faults);
+        next_number = omega (arith, was.next_number, now.next_number);
+        moment = omega (arith, was.moment, now.moment);
+        volume_count = now.volume_count ∙ was.volume_count;
+      };
+}

@@ -1,0 +1,148 @@
+//! Deleting a block.
+ghost use Rattle.std.specs.Prelude.{◌≡◌, ◌≢◌, ℕ, false, None, Some, IfSome, IsErr, IsOk, IsErrOf};
+ghost use Rattle.disk_model.specs.Causes.{Rose};
+ghost use Rattle.map_model.specs.Cells.{Cells};
+ghost use Rattle.map_model.specs.Steps.{Step, delete, delete_refusal};
+ghost use Rattle.pool_state.specs.Answers.{unlimited, delete_fault};
+ghost use Rattle.pool_state.specs.Tenures.{Deletes, state_refusal};
+ghost use Rattle.volume_layout.specs.Paths.{IsBlockId};
+ghost use Rattle.pool_state.specs.Books.{entry_at};
+ghost use Rattle.pool_state.specs.Stands.{Stands, StandsForSome, GoesOn};
+ghost use Rattle.pool_state.specs.declared.entry.State.TheVariants.{Finalised, Unsure, Waiting};
+
+use crate::cleaning::remove_files;
+use crate::entry::{Entry, State};
+use crate::leftover::BlockFile;
+use crate::pool_record::Pool;
+use disk_model::PoolDisks;
+use volume_layout::BlockId;
+
+/// Why a block was not deleted.
+#[derive(Clone, Copy, Debug, PartialEq, Eq)]
+pub enum DeleteFault {
+    /// There is no such block.
+    None,
+    /// It is being written.
+    Writing,
+    /// The disks failed. A replica is in doubt then; any other block is as before.
+    Failed,
+}
+
+impl<D: PoolDisks> Pool<D> {
+    /// Why a deletion of a block would be refused; none where it has files to be deleted, and no writer.
+    pub fn delete_refusal(&self, id: BlockId) -> Option<DeleteFault>
+        ensures refused { (cells : Cells) → Stands D.worlds D.volume_count self.now false cells →
+            IfSome result (λ fault. Step unlimited (cells id) delete (delete_fault fault) (cells id)) }
+        ensures none { (cells : Cells) → Stands D.worlds D.volume_count self.now false cells → result ≡ None → delete_refusal (cells id) ≡ None }
+        ensures valid { IsBlockId id }
+        ensures not_failed { IfSome result (λ fault. fault ≢ DeleteFault.Failed) }
+    {
+        match self.map.find(id) {
+            Some(entry) => refusal_in(entry.state),
+            None => Some(DeleteFault::None),
+        }
+    }
+
+    /// Deletes a block: removes its files, the block file of a replica before its meta file. Where that fails a replica is in
+    /// doubt, and any other block is as before. It takes no memory.
+    pub fn delete(&mut self, id: BlockId) -> Result<(), DeleteFault>
+        requires stands { StandsForSome D.worlds D.volume_count self.old }
+        ensures step { (cells : Cells) → Stands D.worlds D.volume_count self.old false cells → Deletes D.worlds D.volume_count D.left_since id result cells self.old self.new }
+        ensures others { (other : ℕ) → other ≢ id → entry_at self.new.map other ≡ entry_at self.old.map other }
+        ensures goes_on { GoesOn D.worlds D.faults D.next_number D.moment D.volume_count self.old.disks self.new.disks }
+        ensures failed { IsErrOf result DeleteFault.Failed → Rose (D.faults self.old.disks) (D.faults self.new.disks) }
+    {
+        let Some(entry) = self.map.find(id) else {
+            return Err(DeleteFault::None);
+        };
+        match entry.state {
+            State::Writing { .. } => Err(DeleteFault::Writing),
+            State::Finalised => self.delete_final(id, &entry),
+            State::Unsure => self.delete_unsure(id, &entry),
+            State::Waiting { block, meta } => self.delete_waiting(id, &entry, block, meta),
+        }
+    }
+
+    /// Deletes a replica.
+    fn delete_final(&mut self, id: BlockId, entry: &Entry) -> Result<(), DeleteFault>
+        requires entry { entry_at self.old.map id ≡ Some entry.now }
+        requires state { entry.now.state ≡ Finalised }
+        requires stands { StandsForSome D.worlds D.volume_count self.old }
+        ensures step { (cells : Cells) → Stands D.worlds D.volume_count self.old false cells → Deletes D.worlds D.volume_count D.left_since id result cells self.old self.new }
+        ensures others { (other : ℕ) → other ≢ id → entry_at self.new.map other ≡ entry_at self.old.map other }
+        ensures goes_on { GoesOn D.worlds D.faults D.next_number D.moment D.volume_count self.old.disks self.new.disks }
+        ensures failed { IsErr result → Rose (D.faults self.old.disks) (D.faults self.new.disks) }
+    {
+        let files = [BlockFile::Block, BlockFile::Meta(entry.stamp)];
+        match remove_files(&mut self.disks, id, entry.vol, &files) {
+            Ok(()) => {
+                self.map.remove(id);
+                Ok(())
+            }
+            Err(_) => {
+                self.map.set_state(id, State::Unsure);
+                Err(DeleteFault::Failed)
+            }
+        }
+    }
+
+    /// Deletes a block that is in doubt.
+    fn delete_unsure(&mut self, id: BlockId, entry: &Entry) -> Result<(), DeleteFault>
+        requires entry { entry_at self.old.map id ≡ Some entry.now }
+        requires state { entry.now.state ≡ Unsure }
+        requires stands { StandsForSome D.worlds D.volume_count self.old }
+        ensures step { (cells : Cells) → Stands D.worlds D.volume_count self.old false cells → Deletes D.worlds D.volume_count D.left_since id result cells self.old self.new }
+        ensures others { (other : ℕ) → other ≢ id → entry_at self.new.map other ≡ entry_at self.old.map other }
+        ensures goes_on { GoesOn D.worlds D.faults D.next_number D.moment D.volume_count self.old.disks self.new.disks }
+        ensures failed { IsErr result → Rose (D.faults self.old.disks) (D.faults self.new.disks) }
+    {
+        let files = [
+            BlockFile::Block,
+            BlockFile::Meta(entry.stamp),
+            BlockFile::WritingBlock,
+            BlockFile::WritingMeta(entry.stamp),
+        ];
+        match remove_files(&mut self.disks, id, entry.vol, &files) {
+            Ok(()) => {
+                self.map.remove(id);
+                Ok(())
+            }
+            Err(_) => Err(DeleteFault::Failed),
+        }
+    }
+
+    /// Deletes a block that waits: the files of its writer, then those that the opening found.
+    fn delete_waiting(
+        &mut self,
+        id: BlockId,
+        entry: &Entry,
+        block: bool,
+        meta: bool,
+    ) -> Result<(), DeleteFault>
+        requires entry { entry_at self.old.map id ≡ Some entry.now }
+        requires state { entry.now.state ≡ Waiting block meta }
+        requires stands { StandsForSome D.worlds D.volume_count self.old }
+        ensures step { (cells : Cells) → Stands D.worlds D.volume_count self.old false cells → Deletes D.worlds D.volume_count D.left_since id result cells self.old self.new }
+        ensures others { (other : ℕ) → other ≢ id → entry_at self.new.map other ≡ entry_at self.old.map other }
+        ensures goes_on { GoesOn D.worlds D.faults D.next_number D.moment D.volume_count self.old.disks self.new.disks }
+        ensures failed { IsErr result → Rose (D.faults self.old.disks) (D.faults self.new.disks) }
+    {
+        match self.clean(id, entry, block, meta) {
+            Ok(()) => {
+                self.map.remove(id);
+                Ok(())
+            }
+            Err(_) => Err(DeleteFault::Failed),
+        }
+    }
+}
+
+/// Why a block whose entry is in this state can't be deleted.
+fn refusal_in(state: State) -> Option<DeleteFault>
+    ensures { result ≡ state_refusal state }
+{
+    match state {
+        State::Writing { .. } => Some(DeleteFault::Writing),
+        State::Finalised | State::Unsure | State::Waiting { .. } => None,
+    }
+}

@@ -1,0 +1,20 @@
+-- When a survey says exactly what stands.
+use Rattle.std.specs.Prelude.{◌≡◌, ◌↔◌, ℕ, Contains, IsTrue, Option, codes}
+use Rattle.volume_layout.specs.Paths.{IsBlockId}
+use Rattle.disk_model.specs.Worlds.{World, IsListing}
+use Rattle.map_model.specs.Slots.{block, meta, writing_block, writing_meta, is_standing, view_of}
+use Rattle.pool_survey.specs.declared.found.FoundFiles.{FoundFiles}
+use Rattle.pool_survey.specs.declared.surveying.Survey.{Survey}
+use Rattle.pool_survey.specs.Found.{found_of, has_block, metas_of, has_writing, writing_metas_of}
+
+-- what was found of a block is what stands of it on the volume: in its own directory of finalised files, and in `current/rbw`
+pub record IsExact (world : World) (vol id : ℕ) (found : Option FoundFiles) : Type 0 where
+  pub block : has_block found ≡ is_standing (view_of world id vol block)
+  pub metas : (stamp : ℕ) → Contains (metas_of found) stamp ↔ IsTrue (is_standing (view_of world id vol (meta stamp)))
+  pub writing : has_writing found ≡ is_standing (view_of world id vol writing_block)
+  pub writing_metas : (stamp : ℕ) → Contains (writing_metas_of found) stamp ↔ IsTrue (is_standing (view_of world id vol (writing_meta stamp)))
+
+-- the survey of a volume in this world
+pub record IsSurveyOf (world : World) (vol : ℕ) (survey : Survey) : Type 0 where
+  pub blocks : (id : ℕ) → IsBlockId id → IsExact world vol id (found_of survey.blocks id)
+  pub temporary : IsListing world vol (codes "tmp") survey.temporary
