@@ -1,0 +1,181 @@
+#!/usr/bin/env python3
+"""Runs `dnplay` over a real directory against a reference of its own: a plain map of blocks.
+
+    python3 checks/against_reference.py COUNT
+
+It wants the program that `rt run` in `crates/dnplay` builds. COUNT times four random scripts run one after the other over
+one directory, and every reply is compared; then COUNT times three scripts are killed at a random moment, and what the next
+run reads is compared: all that was answered stands, and only the block of the line that was cut off may stand before or
+after that line. It ends with a line of what was run, or with the first difference.
+"""
+
+import copy
+import pathlib
+import random
+import shutil
+import subprocess
+import sys
+import time
+
+CRATE = pathlib.Path(__file__).resolve().parent.parent / "crates" / "dnplay"
+PROGRAM = CRATE / "out" / "dnplay"
+DIRECTORY = CRATE / "out" / "reference"
+COMMAND = [str(PROGRAM), "bp1", "DN-1", f"DS-1:1000:{DIRECTORY}"]
+IDS = ["1", "2", "3", "70000", str(2**63 - 1)]
+
+
+class Reference:
+    """What a client sees of each block: final, written, or waiting to be deleted."""
+
+    def __init__(self):
+        self.final = {}
+        self.written = {}
+        self.waiting = set()
+
+    def refusal(self, block):
+        if block in self.final:
+            return "exists"
+        if block in self.written:
+            return "writing"
+        return "waiting" if block in self.waiting else None
+
+    def reply(self, line):
+        words = line.split(" ")
+        command, block = words[0], words[1]
+        if command == "open":
+            refusal = self.refusal(block)
+            if refusal is None:
+                self.written[block] = (words[2], int(words[3]), "")
+            return refusal or "ok"
+        if command == "write":
+            refusal = self.refusal(block)
+            if refusal is None:
+                self.final[block] = (words[2], words[3])
+            return refusal or "ok"
+        if command == "push":
+            if block not in self.written:
+                return "nowriter"
+            stamp, need, pushed = self.written[block]
+            left = need - len(pushed) // 2
+            if len(words[2]) // 2 > left:
+                return f"over {left}"
+            self.written[block] = (stamp, need, pushed + words[2])
+            return "ok"
+        if command == "finish":
+            if block not in self.written:
+                return "nowriter"
+            stamp, _, pushed = self.written.pop(block)
+            self.final[block] = (stamp, pushed)
+            return "ok"
+        if command == "read":
+            if block in self.final:
+                stamp, content = self.final[block]
+                return f"data {stamp} {content}"
+            return "writing" if block in self.written else "waiting" if block in self.waiting else "none"
+        if block in self.written:
+            return "writing"
+        if block in self.final:
+            del self.final[block]
+            return "ok"
+        if block in self.waiting:
+            self.waiting.discard(block)
+            return "ok"
+        return "none"
+
+    def reopen(self):
+        """A block with an open writer waits to be deleted."""
+        self.waiting |= set(self.written)
+        self.written = {}
+
+
+def random_line(rng):
+    block = rng.choice(IDS)
+    stamp = rng.randint(1, rng.choice([5, 2**63 - 1]))
+    content = bytes(rng.randrange(256) for _ in range(rng.choice([0, 1, 3, 20]))).hex()
+    return rng.choice([
+        f"open {block} {stamp} {rng.choice([0, 1, 5, 30])}",
+        f"push {block} {content}",
+        f"finish {block}",
+        f"write {block} {stamp} {content}",
+        f"read {block}",
+        f"read {block}",
+        f"delete {block}",
+    ])
+
+
+def played(lines):
+    run = subprocess.run(COMMAND, input="".join(line + "\n" for line in lines).encode(), capture_output=True)
+    if run.returncode != 0:
+        sys.exit(f"status {run.returncode}: {run.stdout[-200:]!r}")
+    return run.stdout.decode().split("\n")[:-1]
+
+
+def compare(seed):
+    rng = random.Random(seed)
+    shutil.rmtree(DIRECTORY, ignore_errors=True)
+    reference = Reference()
+    for _ in range(4):
+        lines = [random_line(rng) for _ in range(rng.randint(0, 40))]
+        replies = played(lines)
+        wanted = [reference.reply(line) for line in lines]
+        if replies != wanted:
+            sys.exit(f"seed {seed}: {[d for d in zip(lines, replies, wanted) if d[1] != d[2]][:3]}")
+        reference.reopen()
+
+
+def killed(lines, seconds):
+    """The replies that a run wrote before it was killed."""
+    run = subprocess.Popen(COMMAND, stdin=subprocess.PIPE, stdout=subprocess.PIPE)
+    run.stdin.write("".join(line + "\n" for line in lines).encode())
+    run.stdin.flush()
+    time.sleep(seconds)
+    run.kill()
+    replies = run.stdout.read().decode().split("\n")[:-1]
+    run.wait()
+    return replies
+
+
+def compare_killed(seed):
+    rng = random.Random(seed)
+    shutil.rmtree(DIRECTORY, ignore_errors=True)
+    reference = Reference()
+    for _ in range(3):
+        lines = [random_line(rng) for _ in range(60)]
+        replies = killed(lines, rng.random() * 0.12)
+        for line, reply in zip(lines, replies):
+            wanted = reference.reply(line)
+            if reply != wanted:
+                sys.exit(f"seed {seed}: {line}: {reply}, and not {wanted}")
+        cut = lines[len(replies)] if len(replies) < len(lines) else None
+        before, after = reference, copy.deepcopy(reference)
+        if cut is not None:
+            after.reply(cut)
+        before.reopen()
+        after.reopen()
+        found = Reference()
+        for block, reply in zip(IDS, played([f"read {block}" for block in IDS])):
+            allowed = {before.reply(f"read {block}"), after.reply(f"read {block}")}
+            if cut is not None and cut.split(" ")[1] == block and block not in before.final:
+                # files without a replica may stand of it or not
+                allowed |= {"none", "waiting"}
+            if reply not in allowed:
+                sys.exit(f"seed {seed}: block {block} after the cut {cut}: {reply}, and not one of {sorted(allowed)}")
+            words = reply.split(" ")
+            if words[0] == "data":
+                found.final[block] = (words[1], words[2])
+            elif words[0] == "waiting":
+                found.waiting.add(block)
+        reference = found
+
+
+def main():
+    count = int(sys.argv[1])
+    for seed in range(count):
+        compare(seed)
+        compare_killed(seed)
+    shutil.rmtree(DIRECTORY, ignore_errors=True)
+    print(f"{4 * count} scripts and {3 * count} killed scripts: every reply is that of the reference")
+
+
+if __name__ == "__main__":
+    main()
