@@ -3,13 +3,13 @@
 
 pub mod bytes;
 pub mod listed;
-mod names;
+pub mod names;
 pub mod node_words;
-mod number;
+pub mod number;
 pub mod reply;
 pub mod text;
 mod volume_word;
-mod words;
+pub mod words;
 mod words_fault;
 
 ghost use Rattle.std.specs.Prelude.{◌≡◌, ◌⊎◌, Err, IfOk};

@@ -1,0 +1,6 @@
+pub mod Refusing
+pub mod Nodes
+pub mod Inputs
+pub mod Limits
+pub mod Ranges
+pub mod LastLine

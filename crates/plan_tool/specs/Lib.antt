@@ -1,0 +1,5 @@
+pub mod Command
+pub mod Options
+pub mod Rows
+pub mod Plans
+pub mod Session

@@ -1,0 +1,43 @@
+//! The last line of the output, and the status.
+ghost use Rattle.std.specs.Prelude.{◌≡◌, ◌≢◌, ◌≤◌, ◌⊎◌};
+ghost use Rattle.disk_model.specs.Causes.{Rose};
+ghost use Rattle.plan_tool.specs.Session.{status_of, Writes, Closed};
+
+use crate::ending::Ending;
+use disk_model::Sink;
+use line_io::write_all;
+use std::alloc::Global;
+
+/// The status of a run whose sink failed.
+const SINK_FAILED: u8 = 3;
+
+/// Writes a last line, and gives the status that it goes with.
+fn end_with<K: Sink>(sink: &mut K, line: &[u8], status: u8) -> u8
+    requires { status ≢ 3 }
+    ensures status { (result ≡ status) ⊎ (result ≡ 3) }
+    ensures written { Writes result (K.taken sink.old) (K.taken sink.new) line.now }
+    ensures sink { result ≡ 3 → Rose (K.faults sink.old) (K.faults sink.new) }
+    ensures later { K.faults sink.old ≤ K.faults sink.new }
+{
+    match write_all(sink, line) {
+        Ok(()) => status,
+        Err(_) => SINK_FAILED,
+    }
+}
+
+/// Writes the last line of an ending, unless it has none, and gives the status.
+pub fn close<K: Sink>(alloc: Global, ending: Ending, sink: &mut K) -> u8
+    ensures closed { Closed ending (K.taken sink.old) (K.taken sink.new) result }
+    ensures status { (result ≡ status_of ending) ⊎ (result ≡ 3) ⊎ (result ≡ 4) }
+    ensures complete { ending ≡ Ending.Complete → result ≡ 0 }
+    ensures sink { result ≡ 3 → (ending ≡ Ending.SinkFault) ⊎ Rose (K.faults sink.old) (K.faults sink.new) }
+    ensures later { K.faults sink.old ≤ K.faults sink.new }
+{
+    if let Ending::SinkFault | Ending::Complete = ending {
+        return ending.status();
+    }
+    match ending.last_line(alloc) {
+        Ok(line) => end_with(sink, line.as_bytes(), ending.status()),
+        Err(_) => end_with(sink, b"end memory\n", Ending::NoMemory.status()),
+    }
+}
