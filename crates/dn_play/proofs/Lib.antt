@@ -9,5 +9,4 @@ pub mod Opening
 pub mod LastLine
 pub mod OneDisk
 pub mod Judging
-mod Whole
 mod PutFiles

@@ -1,16 +1,18 @@
 -- What clearing leaves of one block, and what the books and the cell of the block say of it.
 use Rattle.std.proofs.Common.{◌≡◌, ◌⊎◌, ◌↔◌, ◌≤◌, inl, inr, ℕ, Bool, true, false, List, [], ◌∷◌, Option, Some, None, Contains, refl, ap, sym, ◌∙◌, subst, IsTrue, length, arith}
-use Rattle.std.specs.Prelude.{is_some, unwrap_or}
+use Rattle.std.specs.Prelude.{is_some, unwrap_or, IsSomeAnd}
 use Rattle.std.proofs.lemmas.Bool.{false≢true}
 use Rattle.disk_model.proofs.Laws.{only_one}
 use Rattle.disk_model.specs.Worlds.{World}
 use Rattle.volume_layout.specs.Paths.{IsStamp, block_path}
 use Rattle.map_model.specs.Cells.{Replica, Cell, absent, final, waiting}
 use Rattle.map_model.specs.Copies.{Spot, BlockFiles, IsCopy, IsAlone, ReadsAs}
+use Rattle.map_model.specs.Sound.{HasSoundCopies}
 use Rattle.map_model.specs.Openings.{LeavesBlockFile, MakesCell}
 use Rattle.map_model.specs.Slots.{File, block, meta, writing_block, writing_meta, temporary_block, temporary_meta, Slot, empty, holds, drafted, is_standing, bytes_in, View, files_in}
 use Rattle.map_model.specs.Stands.{Leftover, IsListed, HasNoPair, IsFinalised, is_final, StateNames, BlockStands}
 use Rattle.map_model.proofs.SlotLemmas.{bytes-standing}
+use Rattle.map_model.proofs.OneReading.{ReadsAs-unique}
 use Rattle.pool_state.specs.declared.entry.Entry.{Entry}
 use Rattle.pool_state.specs.declared.entry.State.{State}
 use Rattle.pool_state.specs.declared.entry.State.TheVariants.{Finalised, Writing as InWriting, Unsure, Waiting as InWaiting}
@@ -180,6 +182,24 @@ alone_partly (Some files) was now partly =
       | inr (inl made) ↦ no_pair_alone now (lone_no_pair (Some files) was now partly made.lone)
       | inr (inr made) ↦ no_pair_alone now (lone_no_pair (Some files) was now partly (λ there. absurd (false≢true (sym made.no_block ∙ there))))
     ]
+
+-- and copies that matched their metas still do
+pub sound_partly : (M : List ℕ → List ℕ → Type 0) (found : Option FoundFiles) (was now : View) → Partly found was was → Partly found was now →
+    HasSoundCopies M (files_in was) → HasSoundCopies M (files_in now)
+sound_partly M found was now own partly sound spot replica greatest =
+    let bytes = slot_bytes (was 1 block) in
+    let same : read_of found bytes ≡ Some replica = ReadsAs-unique (files_in now) (read_of found bytes) (Some replica) (reads_partly found was now partly) (spot, greatest) in
+    let before : ReadsAs (files_in was) (Some replica) = subst (λ (r : Option Replica). ReadsAs (files_in was) r) same (reads_partly found was was own) in
+    let standing = bytes-standing (now spot.vol block) (ap is_some greatest.copy.block) in
+    let here : spot.vol ≡ 1 = partly.on_one spot.vol block (was_standing found was now partly spot.vol block standing) in
+    let there : before.0.vol ≡ 1 = own.on_one before.0.vol block (bytes-standing (was before.0.vol block) (ap is_some before.1.copy.block)) in
+    let kept : now 1 (meta replica.stamp) ≡ was 1 (meta replica.stamp) = partly.meta_kept (block_found found was now partly spot.vol standing) replica.stamp in
+    let matched : IsSomeAnd (bytes_in (was before.0.vol (meta replica.stamp))) (λ content. M content replica.bytes) = sound before.0 replica before.1 in
+    let on_one : IsSomeAnd (bytes_in (was 1 (meta replica.stamp))) (λ content. M content replica.bytes) =
+    subst (λ v. IsSomeAnd (bytes_in (was v (meta replica.stamp))) (λ content. M content replica.bytes)) there matched in
+    let still : IsSomeAnd (bytes_in (now 1 (meta replica.stamp))) (λ content. M content replica.bytes) =
+    subst (λ (slot : Slot). IsSomeAnd (bytes_in slot) (λ content. M content replica.bytes)) (sym kept) on_one in
+    subst (λ v. IsSomeAnd (bytes_in (now v (meta replica.stamp))) (λ content. M content replica.bytes)) (sym here) still
 
 -- ---- the cell
 

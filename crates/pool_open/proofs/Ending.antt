@@ -24,9 +24,9 @@ use Rattle.pool_open.specs.Looking.{OnlyLooks}
 use Rattle.pool_open.specs.Outcome.{HoldsImage, HasTwoMetas, ReadsAsOne}
 use Rattle.pool_open.proofs.Lists.{found_listed, listed_found}
 use Rattle.pool_open.proofs.Looks.{leaves_before}
-use Rattle.pool_open.proofs.Shown.{world_reads}
+use Rattle.pool_open.proofs.Shown.{world_reads_back}
 use Rattle.pool_open.proofs.Opened.{IsTable, plan_of}
-use Rattle.pool_open.proofs.Opens.{IsOpening, cleared_reads, surveyed, in_before}
+use Rattle.pool_open.proofs.Opens.{IsOpening, cleared_reads_back, surveyed, in_before}
 
 -- ---- looking
 
@@ -49,7 +49,7 @@ module _ {D : Type 0} (worlds_of : D → Option (List World)) (faults_of number_
       AddsOnly (left_of old) (left_of new) (ReadsAsOne (worlds_of old))
   looked_images looks aside t image left = elim (looks.images t image left) [
     | inl earlier ↦ inl earlier
-    | inr leaves ↦ inr (leaves.0, leaves.1, world_reads leaves.0 image (aside leaves.0 leaves.1) leaves.2)
+    | inr leaves ↦ inr (leaves.0, leaves.1, world_reads_back leaves.0 image (aside leaves.0 leaves.1) leaves.2)
   ]
 
 -- what could be left by each of three runs
@@ -74,13 +74,13 @@ pub meanwhile_before : (survey : Survey) (before first second after : Option (Li
     ReadsAsOne before image
 meanwhile_before survey before first second after volumes entries found opening remains image (inl leaves) =
     let is = remains leaves.0 leaves.1 in
-    (leaves.0, is, world_reads leaves.0 image (opening.aside leaves.0 is) leaves.2)
+    (leaves.0, is, world_reads_back leaves.0 image (opening.aside leaves.0 is) leaves.2)
 meanwhile_before survey before first second after volumes entries found opening remains image (inr left) =
     let was = left.1.0 in
     let is = left.1.1 in (
       was,
       in_before survey before first second after volumes entries found opening was is,
-      cleared_reads survey opening.table was (surveyed survey before first second after volumes entries found opening was is) left.0 image left.1.2 left.2,
+      cleared_reads_back survey opening.table was (surveyed survey before first second after volumes entries found opening was is) left.0 image left.1.2 left.2,
     )
 
 -- ---- the table

@@ -15,7 +15,7 @@ use Rattle.map_model.specs.Cells.{Replica, Cell, Cells}
 use Rattle.map_model.specs.Checksums.{Matches}
 use Rattle.map_model.specs.Copies.{Spot, BlockFiles, IsCopy, IsAlone, IsGreatestCopy, ReadsAs, OneWhole}
 use Rattle.map_model.specs.Openings.{shown_files, MakesCell, ReadsAlike}
-use Rattle.map_model.specs.Sound.{MatchesIf, HasSoundCopies}
+use Rattle.map_model.specs.Sound.{MatchesIf, HasSoundCopies, IsSound}
 use Rattle.map_model.specs.Slots.{block, meta, Slot, empty, holds, drafted, is_standing, bytes_in, slot_of, view_of, files_in}
 use Rattle.map_model.specs.Stands.{Leftover, Each, Agrees}
 use Rattle.map_model.proofs.Places.{absent_empty, no_number}
@@ -37,11 +37,11 @@ use Rattle.pool_open.specs.declared.outcome.Outcome.{Outcome}
 use Rattle.pool_open.specs.Plan.{outcome_of, kept_files}
 use Rattle.pool_open.specs.Found.{entry_of, IsSizeOf, IsFinalEntry, IsWaitingEntry, SaysOutcome, SaysFound}
 use Rattle.pool_open.specs.Clearing.{Clears, AreClear, ComesCleared, LeftCleared}
-use Rattle.pool_open.specs.Outcome.{HasSoundFiles, IsOpened, Opens}
+use Rattle.pool_open.specs.Outcome.{HasSoundFiles, IsOpened, ReadsBack, Opens}
 use Rattle.pool_open.proofs.Removals.{clears_none}
 use Rattle.pool_open.proofs.Shown.{shown_view, world_reads}
 use Rattle.pool_open.proofs.Slots.{replica_of, each_kept}
-use Rattle.pool_open.proofs.Blocks.{MakesFinal, outcome_cases, Partly, slot_bytes, read_by, read_of, reads_partly, alone_partly, cell_in, cell_of, made_cell}
+use Rattle.pool_open.proofs.Blocks.{MakesFinal, outcome_cases, Partly, slot_bytes, read_by, read_of, reads_partly, alone_partly, sound_partly, cell_in, cell_of, made_cell}
 use Rattle.pool_open.proofs.Opened.{IsTable, IsSurveyed, plan_of, partly, block_stands}
 
 -- the bytes of a block file, where the disks tell one world; else some of that length
@@ -146,6 +146,19 @@ module _ (survey : Survey) (table : IsTable survey) (was : World) (surveyed : Is
       let same : read_of found bytes ≡ replica = ReadsAs-unique (files_in (view_of was id)) (read_of found bytes) replica as_was before in
       let after : ReadsAs (files_in (view_of now id)) replica = subst (λ (r : Option Replica). ReadsAs (files_in (view_of now id)) r) same as_now in
       subst (λ (files : BlockFiles). ReadsAs files replica) (sym (image_files now image id (clears.aside surveyed.aside) leaves)) after
+
+  -- and is sound where the world is
+  pub cleared_sound : (now : World) (image : Files) → Clears (plan_of survey) was now → Leaves now image → HasSoundFiles was → IsSound image
+  cleared_sound now image clears leaves matching id valid =
+      let found = found_of survey.blocks id in
+      let own = partly survey table was was surveyed (clears_none (plan_of survey) was) id valid in
+      let as_now = partly survey table was now surveyed clears id valid in
+      let before : HasSoundCopies Matches (files_in (view_of was id)) = subst (λ (files : BlockFiles). HasSoundCopies Matches files) (shown_view was id surveyed.aside) (matching id valid) in
+      subst (λ (files : BlockFiles). HasSoundCopies Matches files) (sym (image_files now image id (clears.aside surveyed.aside) leaves))
+      (sound_partly Matches found (view_of was id) (view_of now id) own as_now before)
+
+  pub cleared_reads_back : (now : World) (image : Files) → Clears (plan_of survey) was now → Leaves now image → ReadsBack was image
+  cleared_reads_back now image clears leaves = record { alike = cleared_reads now image clears leaves; sound = cleared_sound now image clears leaves }
 
   -- and has one whole copy of each block at most
   pub cleared_whole : (now : World) (image : Files) → Clears (plan_of survey) was now → Leaves now image → OneWhole image

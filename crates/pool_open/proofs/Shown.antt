@@ -9,9 +9,12 @@ use Rattle.disk_model.specs.Worlds.{World, has_draft}
 use Rattle.disk_model.specs.Told.{Leaves}
 use Rattle.map_model.specs.World.{DraftsAside}
 use Rattle.map_model.specs.Copies.{Spot, BlockFiles, ReadsAs, files_of, block_files}
+use Rattle.map_model.specs.Checksums.{Matches}
 use Rattle.map_model.specs.Openings.{shown_files, ReadsAlike}
+use Rattle.map_model.specs.Sound.{HasSoundCopies, IsSound}
 use Rattle.map_model.specs.Slots.{files_in, view_of}
 use Rattle.map_model.proofs.Bridge.{image_files}
+use Rattle.pool_open.specs.Outcome.{HasSoundFiles, ReadsBack}
 
 -- an image of the world: drafts are empty files
 plain_image : World → Files
@@ -48,3 +51,10 @@ shown_view world id aside =
 pub world_reads : (world : World) (image : Files) → DraftsAside world → Leaves world image → ReadsAlike (shown_files world) image
 world_reads world image aside leaves id valid replica reads =
     subst (λ (files : BlockFiles). ReadsAs files replica) (shown_view world id aside ∙ sym (image_files world image id aside leaves)) reads
+
+-- and is sound where the world is
+pub world_reads_back : (world : World) (image : Files) → DraftsAside world → Leaves world image → ReadsBack world image
+world_reads_back world image aside leaves = record {
+  alike = world_reads world image aside leaves;
+  sound = λ matching id valid. subst (λ (files : BlockFiles). HasSoundCopies Matches files) (shown_view world id aside ∙ sym (image_files world image id aside leaves)) (matching id valid);
+}

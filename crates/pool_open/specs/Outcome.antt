@@ -9,7 +9,7 @@ use Rattle.map_model.specs.Cells.{Replica, Cell, Cells, absent, final, waiting}
 use Rattle.map_model.specs.Checksums.{Matches}
 use Rattle.map_model.specs.Copies.{OneWhole}
 use Rattle.map_model.specs.Openings.{MakesCells, shown_files, ReadsAlike}
-use Rattle.map_model.specs.Sound.{HasSoundCopies}
+use Rattle.map_model.specs.Sound.{HasSoundCopies, IsSound}
 use Rattle.map_model.specs.Stands.{Leftover}
 use Rattle.pool_state.specs.declared.entry.Entry.{Entry}
 use Rattle.pool_state.specs.declared.pool_record.Pool.{Pool}
@@ -47,9 +47,14 @@ disks_of (Err fault) = fault_disks fault
 abbrev pub HasSoundFiles : World → Type 0
 HasSoundFiles world = (id : ℕ) → IsBlockId id → HasSoundCopies Matches (shown_files world id)
 
+-- the image reads as the world does, and its copies match their meta files where those of the world do
+pub record ReadsBack (world : World) (image : Files) : Type 0 where
+  pub alike : ReadsAlike (shown_files world) image
+  pub sound : HasSoundFiles world → IsSound image
+
 -- the image reads as one of these worlds does
 abbrev pub ReadsAsOne : Option (List World) → Files → Type 0
-ReadsAsOne told image = (world : World) × IsWorldOf told world × ReadsAlike (shown_files world) image
+ReadsAsOne told image = (world : World) × IsWorldOf told world × ReadsBack world image
 
 -- The cells are those of a world that was told: it was shown, and every image that a crash could leave since reads as it does.
 pub record Shows (told : Option (List World)) (cells : Cells) (past since : ℕ → Files → Type 0) : Type 0 where

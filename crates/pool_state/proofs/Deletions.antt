@@ -24,7 +24,7 @@ use Rattle.pool_state.specs.Reaching.{Reaches, Stays, RemovesSome, RemovesAll, R
 use Rattle.pool_state.specs.Stands.{with_cell, IsVolume, IsNoWait, IsNotWaiting, PoolStands}
 use Rattle.pool_state.proofs.Changing.{pool_stands, found_kept}
 use Rattle.pool_state.proofs.Reaching.{reaches_same}
-use Rattle.pool_state.proofs.Showing.{Shown, Passes, shown, adds_less}
+use Rattle.pool_state.proofs.Showing.{Shown, Passes, at_books, shown, adds_less}
 use Rattle.pool_state.proofs.Starting.{with_cell-same}
 use Rattle.pool_state.proofs.Lending.{final_cell}
 
@@ -137,19 +137,16 @@ module _ {told : Option (List World)} {volumes : ℕ} {entries : ℕ → Option 
 
       -- what is shown meanwhile
       pub final_passes_doubt : Passes stands id valid (RemovesSome e.vol final_files) (unsure (Some replica) None false)
-      final_passes_doubt before after some own = (block_books (Some (with_state Unsure e)) (found id), unsure (Some replica) None false, final_some before after some own, λ read allows. inr allows)
+      final_passes_doubt before after some own = at_books stands id valid after (unsure (Some replica) None false) (unsure (Some replica) None false) (Some (with_state Unsure e)) (found id)
+          (λ no. none_found Finalised is tt) (final_some before after some own) (λ read allows. inr allows)
 
       pub final_passes_absent : Passes stands id valid (RemovesSome e.vol final_files) absent
-      final_passes_absent before after some own = (
-        block_books (Some (with_state Unsure e)) (found id),
-        unsure (Some replica) None false,
-        final_some before after some own,
-        λ read allows. elim allows [
-          | inl first ↦ inl (subst (λ c. Allows c read) (sym cell_is) first)
-          | inr (inl second) ↦ inr second
-          | inr (inr cut) ↦ absurd (false≢true cut.0)
-        ],
-      )
+      final_passes_absent before after some own = at_books stands id valid after absent (unsure (Some replica) None false) (Some (with_state Unsure e)) (found id)
+          (λ no. none_found Finalised is tt) (final_some before after some own) (λ read allows. elim allows [
+            | inl first ↦ inl (subst (λ c. Allows c read) (sym cell_is) first)
+            | inr (inl second) ↦ inr second
+            | inr (inr cut) ↦ absurd (false≢true cut.0)
+          ])
 
       module _ (told' : Option (List World)) (volumes' : ℕ) (entries' : ℕ → Option Entry) (found' : ℕ → List Leftover) (same_volumes : volumes' ≡ volumes)
           (same_found : (other : ℕ) → found' other ≡ found other) where
@@ -194,19 +191,16 @@ module _ {told : Option (List World)} {volumes : ℕ} {entries : ℕ → Option 
           (delete_unsure_stands (MatchesIf sound) before None (book_entry (with_state Unsure e)) None x y cut refl (own_doubt before own) _ _ _ deleted))
 
       pub doubt_passes_cut : Passes stands id valid (RemovesSome e.vol doubt_files) (unsure x y true)
-      doubt_passes_cut before after some own = (block_books (Some (with_state Unsure e)) (found id), unsure x y true, doubt_some before after some own, λ read allows. inr allows)
+      doubt_passes_cut before after some own = at_books stands id valid after (unsure x y true) (unsure x y true) (Some (with_state Unsure e)) (found id)
+          (λ no. none_found Unsure is tt) (doubt_some before after some own) (λ read allows. inr allows)
 
       pub doubt_passes_absent : Passes stands id valid (RemovesSome e.vol doubt_files) absent
-      doubt_passes_absent before after some own = (
-        block_books (Some (with_state Unsure e)) (found id),
-        unsure x y true,
-        doubt_some before after some own,
-        λ read allows. elim allows [
-          | inl first ↦ inl (subst (λ c. Allows c read) (sym cell_is) (inl first))
-          | inr (inl second) ↦ inl (subst (λ c. Allows c read) (sym cell_is) (inr (inl second)))
-          | inr (inr gone) ↦ inr gone.1
-        ],
-      )
+      doubt_passes_absent before after some own = at_books stands id valid after absent (unsure x y true) (Some (with_state Unsure e)) (found id)
+          (λ no. none_found Unsure is tt) (doubt_some before after some own) (λ read allows. elim allows [
+            | inl first ↦ inl (subst (λ c. Allows c read) (sym cell_is) (inl first))
+            | inr (inl second) ↦ inl (subst (λ c. Allows c read) (sym cell_is) (inr (inl second)))
+            | inr (inr gone) ↦ inr gone.1
+          ])
 
       module _ (told' : Option (List World)) (volumes' : ℕ) (entries' : ℕ → Option Entry) (found' : ℕ → List Leftover) (same_volumes : volumes' ≡ volumes)
           (same_found : (other : ℕ) → found' other ≡ found other) where
@@ -255,6 +249,7 @@ quiet_failure {cells = cells} {StandsFor = StandsFor} id quiet step says = recor
   to = record { cell = cells id; step = step; says = says; stands = λ sound old. subst (StandsFor sound) (sym (with_cell-same cells id)) (quiet.stands sound old) };
   images = adds_less quiet.images (λ image allows. inl allows);
   sound_images = quiet.sound_images;
+  whole_images = quiet.whole_images;
 }
 
 -- a quiet tenure, and then the books forget the block
@@ -265,4 +260,5 @@ quiet_deletion id quiet step says forgets = record {
   to = record { cell = absent; step = step; says = says; stands = λ sound old. forgets sound (quiet.stands sound old) };
   images = adds_less quiet.images (λ image allows. inl allows);
   sound_images = quiet.sound_images;
+  whole_images = quiet.whole_images;
 }

@@ -30,7 +30,7 @@ use Rattle.pool_state.specs.Writers as writers
 use Rattle.pool_state.specs.Reaching.{Reaches, ComesFrom}
 use Rattle.pool_state.proofs.Reaching.{reaches_published, reaches_publish}
 use Rattle.pool_state.proofs.Changing.{pool_stands, found_kept}
-use Rattle.pool_state.proofs.Showing.{Passes, passes_end}
+use Rattle.pool_state.proofs.Showing.{Passes, at_books, passes_end}
 
 -- a meta file without checksums matches any bytes
 pub header_matches : (bytes : List ℕ) → Matches meta_header bytes
@@ -160,16 +160,13 @@ module _ {told : Option (List World)} {volumes : ℕ} {entries : ℕ → Option 
           (own_growing before own) (header_matches_if sound bytes) (ends before after stepped)
 
       pub doubt_passes : Passes stands p.id belongs.valid.0 step (unsure None (Some new) false)
-      doubt_passes = passes_end stands p.id belongs.valid.0 step (unsure None (Some new) false) (block_books (Some (with_state Unsure entry)) (found p.id)) doubt_own
+      doubt_passes = passes_end stands p.id belongs.valid.0 step (unsure None (Some new) false) (Some (with_state Unsure entry)) (found p.id) (λ e. no_files) doubt_own
 
       -- on the way to the new replica
       pub new_passes : Passes stands p.id belongs.valid.0 step (final new)
-      new_passes before after stepped own = (
-        block_books (Some (with_state Unsure entry)) (found p.id),
-        unsure None (Some new) false,
-        doubt_own before after stepped own,
-        λ read allows. subst (λ c. Allows c read ⊎ Allows (final new) read) (sym grows) (doubt_covers p.stamp left bytes read allows),
-      )
+      new_passes before after stepped own = at_books stands p.id belongs.valid.0 after (final new) (unsure None (Some new) false) (Some (with_state Unsure entry)) (found p.id) (λ e. no_files)
+          (doubt_own before after stepped own)
+          (λ read allows. subst (λ c. Allows c read ⊎ Allows (final new) read) (sym grows) (doubt_covers p.stamp left bytes read allows))
 
       module _ (told' : Option (List World)) (volumes' : ℕ) (entries' : ℕ → Option Entry) (found' : ℕ → List Leftover) (same_volumes : volumes' ≡ volumes)
           (same_found : (other : ℕ) → found' other ≡ found other) where
@@ -193,7 +190,7 @@ module _ {told : Option (List World)} {volumes : ℕ} {entries : ℕ → Option 
           (own_growing before own) (header_matches_if sound bytes) finished))
 
       pub final_passes : Passes stands p.id belongs.valid.0 step (final new)
-      final_passes = passes_end stands p.id belongs.valid.0 step (final new) (block_books (Some whole) (found p.id)) final_own
+      final_passes = passes_end stands p.id belongs.valid.0 step (final new) (Some whole) (found p.id) (λ e. no_files) final_own
 
       module _ (told' : Option (List World)) (volumes' : ℕ) (entries' : ℕ → Option Entry) (found' : ℕ → List Leftover) (same_volumes : volumes' ≡ volumes)
           (same_found : (other : ℕ) → found' other ≡ found other) where
@@ -233,6 +230,10 @@ module _ {told : Option (List World)} {volumes : ℕ} {entries : ℕ → Option 
     pub placed_here : IsVolume volumes e.vol
     placed_here = subst (λ (o : Option Entry). IfSome o (λ x. IsVolume volumes x.vol)) has (stands.placed id valid)
 
+    -- the opening found no files of it
+    clean_here : found id ≡ []
+    clean_here = stands.clean id valid (subst IsNotWaiting (sym has) (subst IsNoWait (sym is_written_state) tt))
+
     module _ (step : View → View → Type 0) (block_left meta_left : Bool)
         (drops : (before after : View) → step before after → DropsFresh before (found id) None (writer_in e b m) after (block_books (Some (with_state (Waiting block_left meta_left) e)) (found id)) waiting) where
       waits_own : (before after : View) → step before after → BlockStands (MatchesIf sound) before (block_books (entries id) (found id)) (cells id) →
@@ -242,12 +243,9 @@ module _ {told : Option (List World)} {volumes : ℕ} {entries : ℕ → Option 
 
       -- meanwhile nothing is read of it
       pub dropping_passes : (cell : Cell) → Passes stands id valid step cell
-      dropping_passes cell before after stepped own = (
-        block_books (Some (with_state (Waiting block_left meta_left) e)) (found id),
-        waiting,
-        waits_own before after stepped own,
-        λ read allows. inl (subst (λ c. Allows c read) (sym grows) allows),
-      )
+      dropping_passes cell before after stepped own = at_books stands id valid after cell waiting (Some (with_state (Waiting block_left meta_left) e)) (found id) (λ no. absurd no)
+          (waits_own before after stepped own)
+          (λ read allows. inl (subst (λ c. Allows c read) (sym grows) allows))
 
       module _ (told' : Option (List World)) (volumes' : ℕ) (entries' : ℕ → Option Entry) (found' : ℕ → List Leftover) (same_volumes : volumes' ≡ volumes)
           (same_found : (other : ℕ) → found' other ≡ found other) where
@@ -267,7 +265,7 @@ module _ {told : Option (List World)} {volumes : ℕ} {entries : ℕ → Option 
           (both_dropped before (writer_in e b m)) (block_books None (found id)) absent dropped)
 
       pub absent_passes : Passes stands id valid step absent
-      absent_passes = passes_end stands id valid step absent (block_books None (found id)) absent_own
+      absent_passes = passes_end stands id valid step absent None (found id) (λ none. clean_here) absent_own
 
       module _ (told' : Option (List World)) (volumes' : ℕ) (entries' : ℕ → Option Entry) (found' : ℕ → List Leftover) (same_volumes : volumes' ≡ volumes)
           (same_found : (other : ℕ) → found' other ≡ found other) where
@@ -275,7 +273,7 @@ module _ {told : Option (List World)} {volumes : ℕ} {entries : ℕ → Option 
             PoolStands told' volumes' entries' found' sound (with_cell cells id absent)
         dropped_stands reaches changed = pool_stands stands id valid step reaches same_volumes None (found id) absent changed
             (found_kept id found found' same_found) tt tt (stands.found_placed id valid)
-            (λ none. stands.clean id valid (subst IsNotWaiting (sym has) (subst IsNoWait (sym is_written_state) tt))) absent_own
+            (λ none. clean_here) absent_own
 
   -- the entry of an open writer
   pub by_state : (e : Entry) (state : State) → e.state ≡ state → IsWritingState state → (b : ℕ) × (m : ℕ) × (e.state ≡ Writing b m)

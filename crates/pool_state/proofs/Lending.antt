@@ -19,6 +19,7 @@ use Rattle.pool_state.specs.Stands.{IsVolume, PoolStands}
 use Rattle.map_model.specs.Laws as model
 use Rattle.map_model.proofs.LawProofs.{stands_allows}
 use Rattle.map_model.proofs.Soundness.{stands_is_sound}
+use Rattle.pool_state.proofs.Whole.{leaves_whole}
 use Rattle.pool_state.proofs.Showing.{Quiet}
 use Rattle.pool_state.specs.Readers.{reader_bytes, Lends}
 
@@ -46,6 +47,7 @@ looked_images {told' = told'} {entries = entries} {found = found} {sound = sound
     record {
       allowed = stands_allows (MatchesIf sound) told' (λ id. block_books (entries id) (found id)) cells image whole leaves;
       matching = stands_is_sound (MatchesIf sound) told' (λ id. block_books (entries id) (found id)) cells image whole leaves;
+      whole = leaves_whole stands image leaves;
     }
 
 -- no draft stands at a finalised block

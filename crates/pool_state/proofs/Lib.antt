@@ -1,5 +1,6 @@
 pub mod Reaching
 pub mod Changing
+pub mod Whole
 pub mod Showing
 pub mod Starting
 pub mod Pieces

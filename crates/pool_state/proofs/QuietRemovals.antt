@@ -11,15 +11,16 @@ use Rattle.disk_model.specs.Files.{Files}
 use Rattle.disk_model.specs.Worlds.{World}
 use Rattle.disk_model.specs.Told.{CanLeave}
 use Rattle.volume_layout.specs.Paths.{IsBlockId}
-use Rattle.map_model.specs.Cells.{Cells}
+use Rattle.map_model.specs.Cells.{Cells, waiting}
 use Rattle.map_model.specs.Allows.{AllowsImage}
 use Rattle.map_model.specs.Sound.{MatchesIf}
 use Rattle.map_model.specs.Slots.{View, remove_in}
-use Rattle.map_model.specs.Stands.{Agrees, Entry as BookEntry, Leftover as BookLeftover, Each, BlockStands}
+use Rattle.map_model.specs.Stands.{Agrees, Entry as BookEntry, Leftover as BookLeftover, Each, HasNoPair, BlockStands}
 use Rattle.map_model.specs.Tenures.{books_of, Fails, gone, kept}
 use Rattle.map_model.proofs.Removing.{removes_stands}
 use Rattle.pool_state.specs.declared.entry.Entry.{Entry}
-use Rattle.pool_state.specs.declared.entry.State.TheVariants.{Waiting}
+use Rattle.pool_state.specs.declared.entry.State.{State}
+use Rattle.pool_state.specs.declared.entry.State.TheVariants.{Finalised, Writing, Unsure, Waiting}
 use Rattle.pool_state.specs.declared.leftover.Leftover.{Leftover}
 use Rattle.pool_state.specs.Answers.{IsQuiet}
 use Rattle.pool_state.specs.Books.{entry_state, book_entry, left_in, left_block, left_meta, own_left, book_leftover, of_block, block_books, with_state, IsFirstOf}
@@ -27,7 +28,9 @@ use Rattle.pool_state.specs.Reaching.{Reaches}
 use Rattle.pool_state.specs.Stands.{with_cell, IsVolume, IsNoWait, IsNotWaiting, PoolStands}
 use Rattle.pool_state.proofs.Changing.{pool_stands, found_kept}
 use Rattle.pool_state.proofs.Removals.{of_block_append}
-use Rattle.pool_state.proofs.Showing.{Shown, Quiet, shown, adds_join}
+use Rattle.pool_state.proofs.Deletions.{waiting_cell}
+use Rattle.pool_state.proofs.Showing.{Shown, Quiet, at_books, shown, adds_join}
+use Rattle.pool_state.proofs.Whole.{waiting_whole}
 use Rattle.pool_state.proofs.Starting.{with_cell-same}
 
 -- what is shown of a block whose cell stays
@@ -38,6 +41,7 @@ shown_quiet sound cells id image shows = record {
     | inr after ↦ subst (λ (cs : Cells). AllowsImage cs image) (with_cell-same cells id) after
   ];
   matching = shows.matching;
+  whole = shows.whole;
 }
 
 module _ {told : Option (List World)} {volumes : ℕ} {entries : ℕ → Option Entry} {found : ℕ → List BookLeftover} {sound : Bool} {cells : Cells}
@@ -71,6 +75,37 @@ module _ {told : Option (List World)} {volumes : ℕ} {entries : ℕ → Option 
   agrees_here : Agrees (Some (book_entry e)) (cells id)
   agrees_here = subst (λ (o : Option Entry). Agrees (option_map book_entry o) (cells id)) has (stands.agrees id valid)
 
+  -- what an entry lists whose block doesn't wait
+  lists_nothing : (state : State) → IsNoWait state → left_in e state ≡ []
+  lists_nothing Finalised calm = refl
+  lists_nothing (Writing b m) calm = refl
+  lists_nothing Unsure calm = refl
+  lists_nothing (Waiting l m) calm = absurd calm
+
+  not_empty : (before : List BookLeftover) → [] ≡ before ++ leftover ∷ back → ⊥
+  not_empty [] is = absurd cc
+  not_empty (x ∷ xs) is = absurd cc
+
+  calm_not : (state : State) → e.state ≡ state → IsNoWait state → ⊥
+  calm_not state is calm = not_empty front (
+    sym (ap (λ (l : List BookLeftover). l ++ found id) (ap (left_in e) is ∙ lists_nothing state calm)
+    ∙ stands.clean id valid (subst IsNotWaiting (sym has) (subst IsNoWait (sym is) calm)))
+    ∙ listed)
+
+  -- so the block waits
+  waits_by : (state : State) → e.state ≡ state → (l : Bool) × (m : Bool) × (e.state ≡ Waiting l m)
+  waits_by (Waiting l m) is = (l, m, is)
+  waits_by Finalised is = absurd (calm_not Finalised is tt)
+  waits_by (Writing b m) is = absurd (calm_not (Writing b m) is tt)
+  waits_by Unsure is = absurd (calm_not Unsure is tt)
+
+  cell_waits : cells id ≡ waiting
+  cell_waits = let waits = waits_by e.state refl in waiting_cell (cells id) e waits.0 waits.1 waits.2 agrees_here
+
+  -- and has no pair
+  no_pair : (view : View) → BlockStands (MatchesIf sound) view (books_of (Some (book_entry e)) (front ++ back) None) (cells id) → HasNoPair view
+  no_pair view own = (subst (BlockStands (MatchesIf sound) view (books_of (Some (book_entry e)) (front ++ back) None)) cell_waits own).content
+
   module _ (told' : Option (List World)) (volumes' : ℕ) (same_volumes : volumes' ≡ volumes) where
     -- the removal failed
     module _ (reaches : Reaches id (λ before after. Fails before (remove_in before leftover.vol leftover.file) after) told told') where
@@ -84,14 +119,20 @@ module _ {told : Option (List World)} {volumes : ℕ} {entries : ℕ → Option 
       pub failed_images : (image : Files) → CanLeave told' image → Quiet sound cells image
       failed_images image leaves = shown_quiet sound cells id image
           (shown stands id valid (λ before after. Fails before (remove_in before leftover.vol leftover.file) after) told' reaches (cells id)
-          (λ before after stepped own. (block_books (entries id) (found id), cells id, fails_own before after stepped own, λ read allows. inl allows)) image leaves)
+          (λ before after stepped own. at_books stands id valid after (cells id) (cells id) (entries id) (found id) (stands.clean id valid) (fails_own before after stepped own) (λ read allows. inl allows)) image leaves)
 
     -- it was done
     module _ (reaches : Reaches id (λ before after. after ≡ remove_in before leftover.vol leftover.file) told told') where
       pub removed_images : (image : Files) → CanLeave told' image → Quiet sound cells image
       removed_images image leaves = shown_quiet sound cells id image
           (shown stands id valid (λ before after. after ≡ remove_in before leftover.vol leftover.file) told' reaches (cells id)
-          (λ before after stepped own. (books_of (Some (book_entry e)) (front ++ back) None, cells id, gone_own before after stepped own, λ read allows. inl allows)) image leaves)
+          (λ before after stepped own. record {
+            books = books_of (Some (book_entry e)) (front ++ back) None;
+            mid = cells id;
+            stood = gone_own before after stepped own;
+            whole = waiting_whole after (no_pair after (gone_own before after stepped own));
+            allows = λ read allows. inl allows;
+          }) image leaves)
 
       -- and the books that are left are these
       pub removed_stands : (entries' : ℕ → Option Entry) (found' : ℕ → List BookLeftover) (entry : Entry) (left : List BookLeftover) →
@@ -137,6 +178,7 @@ both_quiet first second = record {
   stands = λ sound old. second.stands sound (first.stands sound old);
   images = adds_join first.images second.images;
   sound_images = λ old. adds_join (first.sound_images old) (second.sound_images (first.stands true old));
+  whole_images = adds_join first.whole_images second.whole_images;
 }
 
 -- the entry of a block of which the opening found files

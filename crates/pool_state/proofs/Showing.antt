@@ -1,5 +1,5 @@
 -- What a crash can leave while a tenure changes one block.
-use Rattle.std.proofs.Common.{◌≡◌, ◌⊎◌, inl, inr, ℕ, Bool, true, false, Option, List, sym, subst}
+use Rattle.std.proofs.Common.{◌≡◌, ◌⊎◌, inl, inr, ℕ, Bool, true, false, Option, List, [], sym, subst}
 use Rattle.std.proofs.lemmas.Bool.{cases_eq, eq-eqb, ne_eqb}
 use Rattle.disk_model.specs.Files.{Files}
 use Rattle.disk_model.specs.Worlds.{World}
@@ -8,7 +8,7 @@ use Rattle.disk_model.specs.Moments.{AddsOnly}
 use Rattle.volume_layout.specs.Paths.{IsBlockId}
 use Rattle.map_model.specs.World.{DraftsAside}
 use Rattle.map_model.specs.Cells.{Replica, Cell, Cells}
-use Rattle.map_model.specs.Copies.{BlockFiles, block_files}
+use Rattle.map_model.specs.Copies.{Spot, BlockFiles, block_files, IsCopy, IsAlone, OneWhole}
 use Rattle.map_model.specs.Allows.{Allows, AllowsFiles, AllowsImage}
 use Rattle.map_model.specs.Sound.{MatchesIf, HasSoundCopies, IsSoundBy}
 use Rattle.map_model.specs.Slots.{View, files_in, view_of}
@@ -21,12 +21,14 @@ use Rattle.pool_state.specs.declared.entry.Entry.{Entry}
 use Rattle.pool_state.specs.Books.{block_books}
 use Rattle.pool_state.specs.Reaching.{ComesFrom, Reaches}
 use Rattle.pool_state.specs.Answers.{unlimited, AllowedByEither, TakesStep, IsQuiet}
-use Rattle.pool_state.specs.Stands.{with_cell, PoolStands}
+use Rattle.pool_state.specs.Stands.{with_cell, IsNotWaiting, PoolStands}
+use Rattle.pool_state.proofs.Whole.{IsWholeIn, block_whole}
 
--- an image is allowed by the cells before or after, and its copies match
+-- an image is allowed by the cells before or after, its copies match, and each is whole
 pub record Shown (sound : Bool) (before after : Cells) (image : Files) : Type 0 where
   pub allowed : AllowedByEither before after image
   pub matching : IsSoundBy (MatchesIf sound) image
+  pub whole : OneWhole image
 
 -- of images, no more is added at the beginning
 pub begins : (past : ℕ → Files → Type 0) (P : Files → Type 0) → AddsOnly past past P
@@ -56,25 +58,40 @@ adds_join first second t image s = elim (second t image s) [
 
 module _ {told : Option (List World)} {volumes : ℕ} {entries : ℕ → Option Entry} {found : ℕ → List Leftover} {sound : Bool} {cells : Cells}
     (stands : PoolStands told volumes entries found sound cells) (id : ℕ) (valid : IsBlockId id) where
-  -- At a moment the block's files stand for some cell, and what it allows is allowed by the cell before or by this one.
+  -- At a moment the block's files stand for some cell, a copy of it is whole, and what the cell allows is allowed by the cell
+  -- before or by this one.
+  pub record At (after : View) (cell : Cell) : Type 0 where
+    pub books : BlockBooks
+    pub mid : Cell
+    pub stood : BlockStands (MatchesIf sound) after books mid
+    pub whole : IsWholeIn after
+    pub allows : (read : Option Replica) → Allows mid read → Allows (cells id) read ⊎ Allows cell read
+
   abbrev pub Passes : (View → View → Type 0) → Cell → Type 0
-  Passes step cell = (before after : View) → step before after → BlockStands (MatchesIf sound) before (block_books (entries id) (found id)) (cells id) →
-      (books : BlockBooks) × (mid : Cell) × BlockStands (MatchesIf sound) after books mid × ((read : Option Replica) → Allows mid read → Allows (cells id) read ⊎ Allows cell read)
+  Passes step cell = (before after : View) → step before after → BlockStands (MatchesIf sound) before (block_books (entries id) (found id)) (cells id) → At after cell
+
+  -- by an entry and the files that the opening found
+  pub at_books : (after : View) (cell mid : Cell) (entry : Option Entry) (left : List Leftover) → (IsNotWaiting entry → left ≡ []) →
+      BlockStands (MatchesIf sound) after (block_books entry left) mid → ((read : Option Replica) → Allows mid read → Allows (cells id) read ⊎ Allows cell read) → At after cell
+  at_books after cell mid entry left clean stood allows = record {
+    books = block_books entry left;
+    mid = mid;
+    stood = stood;
+    whole = block_whole (MatchesIf sound) after entry left mid stood clean;
+    allows = allows;
+  }
 
   -- at the end they stand for the cell itself
-  pub passes_end : (step : View → View → Type 0) (cell : Cell) (books : BlockBooks) →
-      ((before after : View) → step before after → BlockStands (MatchesIf sound) before (block_books (entries id) (found id)) (cells id) → BlockStands (MatchesIf sound) after books cell) →
+  pub passes_end : (step : View → View → Type 0) (cell : Cell) (entry : Option Entry) (left : List Leftover) → (IsNotWaiting entry → left ≡ []) →
+      ((before after : View) → step before after → BlockStands (MatchesIf sound) before (block_books (entries id) (found id)) (cells id) → BlockStands (MatchesIf sound) after (block_books entry left) cell) →
       Passes step cell
-  passes_end step cell books own before after stepped was = (books, cell, own before after stepped was, λ read allows. inr allows)
+  passes_end step cell entry left clean own before after stepped was = at_books after cell cell entry left clean (own before after stepped was) (λ read allows. inr allows)
 
   -- where nothing changes
   pub stays_passes : Passes (λ before after. after ≡ before) (cells id)
-  stays_passes before after stepped was = (
-    block_books (entries id) (found id),
-    cells id,
-    subst (λ (v : View). BlockStands (MatchesIf sound) v (block_books (entries id) (found id)) (cells id)) (sym stepped) was,
-    λ read allows. inl allows,
-  )
+  stays_passes before after stepped was = at_books after (cells id) (cells id) (entries id) (found id) (stands.clean id valid)
+      (subst (λ (v : View). BlockStands (MatchesIf sound) v (block_books (entries id) (found id)) (cells id)) (sym stepped) was)
+      (λ read allows. inl allows)
 
   module _ (step : View → View → Type 0) (told' : Option (List World)) (reaches : Reaches id step told told') where
     came : (world : World) → IsWorldOf told' world → ComesFrom id step told world
@@ -83,28 +100,33 @@ module _ {told : Option (List World)} {volumes : ℕ} {entries : ℕ → Option 
     aside_then : (world : World) → IsWorldOf told' world → DraftsAside world
     aside_then world is = let from : ComesFrom id step told world = came world is in from.aside (stands.aside from.was from.is)
 
-    -- another block's files allow what its cell allows, and match
+    -- another block's files allow what its cell allows, match, and are whole
     others_allow : (world : World) (is : IsWorldOf told' world) (other : ℕ) → IsBlockId other → (id ≡ other → ⊥) →
-        AllowsFiles (cells other) (files_in (view_of world other)) × HasSoundCopies (MatchesIf sound) (files_in (view_of world other))
+        AllowsFiles (cells other) (files_in (view_of world other)) × (HasSoundCopies (MatchesIf sound) (files_in (view_of world other)) × IsWholeIn (view_of world other))
     others_allow world is other valid_other apart =
         let from : ComesFrom id step told world = came world is in
         let own = stands.blocks from.was from.is other valid_other in
         let books : BlockBooks = block_books (entries other) (found other) in
-        subst (λ (v : View). AllowsFiles (cells other) (files_in v) × HasSoundCopies (MatchesIf sound) (files_in v)) (sym (from.others other valid_other apart))
-        (block_allows (MatchesIf sound) (view_of from.was other) books (cells other) own, block_is_sound (MatchesIf sound) (view_of from.was other) books (cells other) own)
+        subst (λ (v : View). AllowsFiles (cells other) (files_in v) × (HasSoundCopies (MatchesIf sound) (files_in v) × IsWholeIn v)) (sym (from.others other valid_other apart)) (
+          block_allows (MatchesIf sound) (view_of from.was other) books (cells other) own, (
+            block_is_sound (MatchesIf sound) (view_of from.was other) books (cells other) own,
+            block_whole (MatchesIf sound) (view_of from.was other) (entries other) (found other) (cells other) own (stands.clean other valid_other),
+          ),
+        )
 
     module _ (cell : Cell) (passes : Passes step cell) where
       own_allow : (world : World) (is : IsWorldOf told' world) →
-          (AllowsFiles (cells id) (files_in (view_of world id)) ⊎ AllowsFiles cell (files_in (view_of world id))) × HasSoundCopies (MatchesIf sound) (files_in (view_of world id))
+          (AllowsFiles (cells id) (files_in (view_of world id)) ⊎ AllowsFiles cell (files_in (view_of world id)))
+          × (HasSoundCopies (MatchesIf sound) (files_in (view_of world id)) × IsWholeIn (view_of world id))
       own_allow world is =
           let from : ComesFrom id step told world = came world is in
-          let at = passes (view_of from.was id) (view_of world id) from.stepped (stands.blocks from.was from.is id valid) in
-          let allows = block_allows (MatchesIf sound) (view_of world id) at.0 at.1 at.2 in (
-            elim (at.3 allows.read allows.allowed) [
+          let at : At (view_of world id) cell = passes (view_of from.was id) (view_of world id) from.stepped (stands.blocks from.was from.is id valid) in
+          let allows = block_allows (MatchesIf sound) (view_of world id) at.books at.mid at.stood in (
+            elim (at.allows allows.read allows.allowed) [
               | inl before ↦ inl (record { read = allows.read; reads = allows.reads; allowed = before })
               | inr after ↦ inr (record { read = allows.read; reads = allows.reads; allowed = after })
             ],
-            block_is_sound (MatchesIf sound) (view_of world id) at.0 at.1 at.2,
+            (block_is_sound (MatchesIf sound) (view_of world id) at.books at.mid at.stood, at.whole),
           )
 
       -- what a crash can leave at this moment
@@ -131,8 +153,13 @@ module _ {told : Option (List World)} {volumes : ℕ} {entries : ℕ → Option 
             ];
             matching = λ other valid_other. subst (λ (f : BlockFiles). HasSoundCopies (MatchesIf sound) f) (sym (files other))
                 (elim (cases_eq other id) [
-                  | inl same ↦ subst (λ n. HasSoundCopies (MatchesIf sound) (files_in (view_of world n))) (sym same) own.1
-                  | inr apart ↦ (others_allow world is other valid_other (λ e. apart (sym e))).1
+                  | inl same ↦ subst (λ n. HasSoundCopies (MatchesIf sound) (files_in (view_of world n))) (sym same) own.1.0
+                  | inr apart ↦ (others_allow world is other valid_other (λ e. apart (sym e))).1.0
+                ]);
+            whole = λ other valid_other. subst (λ (f : BlockFiles). (spot : Spot) (replica : Replica) → IsCopy f spot replica → IsAlone f spot) (sym (files other))
+                (elim (cases_eq other id) [
+                  | inl same ↦ subst (λ n. IsWholeIn (view_of world n)) (sym same) own.1.1
+                  | inr apart ↦ (others_allow world is other valid_other (λ e. apart (sym e))).1.1
                 ]);
           }
 
@@ -145,12 +172,14 @@ takes cell step says run stood = record {
   to = record { cell = cell; step = step; says = says; stands = λ sound old. (run sound old).0 };
   images = adds_less (run false stood).1 (λ image shows. shows.allowed);
   sound_images = λ old. adds_less (run true old).1 (λ image shows. shows.matching);
+  whole_images = adds_less (run false stood).1 (λ image shows. shows.whole);
 }
 
--- an image that the cells allow, and that matches
+-- an image that the cells allow, that matches, and each of whose copies is whole
 pub record Quiet (sound : Bool) (cells : Cells) (image : Files) : Type 0 where
   pub allowed : AllowsImage cells image
   pub matching : IsSoundBy (MatchesIf sound) image
+  pub whole : OneWhole image
 
 pub rests : {cells : Cells} {Stood StandsFor : Bool → Cells → Type 0} {past since : ℕ → Files → Type 0} →
     ((sound : Bool) → Stood sound cells → StandsFor sound cells × AddsOnly past since (Quiet sound cells)) →
@@ -159,4 +188,5 @@ rests run stood = record {
   stands = λ sound old. (run sound old).0;
   images = adds_less (run false stood).1 (λ image shows. shows.allowed);
   sound_images = λ old. adds_less (run true old).1 (λ image shows. shows.matching);
+  whole_images = adds_less (run false stood).1 (λ image shows. shows.whole);
 }

@@ -25,7 +25,7 @@ use Rattle.pool_state.specs.Books.{entry_state, book_entry, block_books}
 use Rattle.pool_state.specs.Stands.{with_cell, IsNotWaiting, PoolStands}
 use Rattle.pool_state.specs.Reaching.{Reaches, ComesFrom, Then}
 use Rattle.pool_state.proofs.Changing.{pool_stands, found_kept}
-use Rattle.pool_state.proofs.Showing.{Passes, passes_end}
+use Rattle.pool_state.proofs.Showing.{Passes, at_books, passes_end}
 
 -- a cell that is put back
 pub with_cell-same : (cells : Cells) (id : ℕ) → with_cell cells id (cells id) ≡ cells
@@ -183,12 +183,10 @@ module _ {told : Option (List World)} {volumes : ℕ} {entries : ℕ → Option 
       pub waits_passes : (step : View → View → Type 0) (block_left meta_left : Bool) (b m : ℕ) (cell : Cell) →
           ((before after : View) → step before after → StartsWrite before None (starter stamp need vol b m) after (block_books (Some (entry_in id stamp need vol (Waiting block_left meta_left))) []) waiting) →
           Passes stands id valid step cell
-      waits_passes step block_left meta_left b m cell starts before after stepped own = (
-        block_books (Some (entry_in id stamp need vol (Waiting block_left meta_left))) (found id),
-        waiting,
-        waits_own step block_left meta_left b m starts before after stepped own,
-        λ read allows. inl (subst (λ c. Allows c read) (sym is_absent) allows),
-      )
+      waits_passes step block_left meta_left b m cell starts before after stepped own =
+          at_books stands id valid after cell waiting (Some (entry_in id stamp need vol (Waiting block_left meta_left))) (found id) (λ no. absurd no)
+          (waits_own step block_left meta_left b m starts before after stepped own)
+          (λ read allows. inl (subst (λ c. Allows c read) (sym is_absent) allows))
 
       module _ (told' : Option (List World)) (volumes' : ℕ) (entries' : ℕ → Option Entry) (found' : ℕ → List Leftover) (same_volumes : volumes' ≡ volumes)
           (same_found : (other : ℕ) → found' other ≡ found other) where
@@ -223,4 +221,4 @@ module _ {told : Option (List World)} {volumes : ℕ} {entries : ℕ → Option 
 
         pub grows_passes : (b m : ℕ) → Passes stands id valid (Then (λ before after. after ≡ create_in before vol writing_block b) (λ before after. after ≡ create_in before vol (writing_meta stamp) m)) (growing stamp None [] need)
         grows_passes b m = passes_end stands id valid (Then (λ before after. after ≡ create_in before vol writing_block b) (λ before after. after ≡ create_in before vol (writing_meta stamp) m))
-            (growing stamp None [] need) (block_books (Some (entry_in id stamp need vol (Writing b m))) (found id)) (grows_own b m)
+            (growing stamp None [] need) (Some (entry_in id stamp need vol (Writing b m))) (found id) (λ e. no_files) (grows_own b m)

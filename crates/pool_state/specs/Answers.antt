@@ -3,6 +3,7 @@ use Rattle.std.specs.Prelude.{ℕ, ◌≤◌, ◌<◌, ◌^◌, ◌⊎◌, Bool,
 use Rattle.disk_model.specs.Files.{Files}
 use Rattle.disk_model.specs.Moments.{AddsOnly}
 use Rattle.map_model.specs.Allows.{AllowsImage}
+use Rattle.map_model.specs.Copies.{OneWhole}
 use Rattle.map_model.specs.Sound.{IsSound}
 use Rattle.map_model.specs.Cells.{Cell, Cells}
 use Rattle.map_model.specs.Steps.{Command, Room, Step}
@@ -77,18 +78,21 @@ pub record StepsTo (id : ℕ) (command : Command) (answer : Reply) (Says : Cell 
   pub stands : (sound : Bool) → Stood sound cells → StandsFor sound (with_cell cells id cell)
 
 -- A tenure takes a step of the cells; and every image that a crash can leave meanwhile is allowed by the cells before or after,
--- and is sound where the disks began sound.
+-- is sound where the disks began sound, and has one whole copy of each block at most.
 pub record TakesStep (id : ℕ) (command : Command) (answer : Reply) (Says : Cell → Type 0) (cells : Cells)
     (Stood StandsFor : Bool → Cells → Type 0) (past since : ℕ → Files → Type 0) : Type 0 where
   pub to : StepsTo id command answer Says cells Stood StandsFor
   pub images : AddsOnly past since (AllowedByEither cells (with_cell cells id to.cell))
   pub sound_images : Stood true cells → AddsOnly past since IsSound
+  pub whole_images : AddsOnly past since OneWhole
 
--- A tenure is quiet: what stood for the cells stands for them, and every image that a crash can leave meanwhile is allowed by them.
+-- A tenure is quiet: what stood for the cells stands for them, and every image that a crash can leave meanwhile is allowed by them,
+-- is sound where the disks began sound, and has one whole copy of each block at most.
 pub record IsQuiet (cells : Cells) (Stood StandsFor : Bool → Cells → Type 0) (past since : ℕ → Files → Type 0) : Type 0 where
   pub stands : (sound : Bool) → Stood sound cells → StandsFor sound cells
   pub images : AddsOnly past since (AllowsImage cells)
   pub sound_images : Stood true cells → AddsOnly past since IsSound
+  pub whole_images : AddsOnly past since OneWhole
 
 -- the number was given between these two next numbers
 pub record GivenBetween (first last number : ℕ) : Type 0 where

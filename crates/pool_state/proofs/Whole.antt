@@ -8,7 +8,7 @@ use Rattle.map_model.specs.Cells.{Replica, Cell, Cells, absent, final, growing, 
 use Rattle.map_model.specs.Copies.{Spot, BlockFiles, own_spot, IsCopy, IsAlone, OneWhole}
 use Rattle.map_model.specs.Slots.{File, block, meta, is_standing, View, files_in, view_of}
 use Rattle.map_model.specs.Sound.{MatchesIf}
-use Rattle.map_model.specs.Stands.{is_final, is_waiting, Entry as BookEntry, Leftover, StateNames, HasOwnLeftovers, IsListed, Agrees, WritesOver, IsInDoubt, BlockStands}
+use Rattle.map_model.specs.Stands.{is_final, is_waiting, Entry as BookEntry, Leftover, StateNames, HasOwnLeftovers, IsListed, Agrees, WritesOver, IsInDoubt, HasNoPair, BlockStands}
 use Rattle.map_model.proofs.Owned.{IsOwn, own_file}
 use Rattle.map_model.proofs.Readings.{KeepsStamp-meta}
 use Rattle.map_model.proofs.SlotLemmas.{bytes-standing}
@@ -18,6 +18,10 @@ use Rattle.pool_state.specs.declared.entry.State.{State}
 use Rattle.pool_state.specs.declared.entry.State.TheVariants.{Finalised, Writing, Unsure, Waiting}
 use Rattle.pool_state.specs.Books.{entry_state, book_entry, left_in, block_books}
 use Rattle.pool_state.specs.Stands.{IsNoWait, IsNotWaiting, PoolStands}
+
+-- each copy in the view is whole, and no other finalised file of the block stands
+abbrev pub IsWholeIn : View → Type 0
+IsWholeIn view = (spot : Spot) (replica : Replica) → IsCopy (files_in view) spot replica → IsAlone (files_in view) spot
 
 -- the one meta that an entry names
 named_meta : (state : State) (stamp other : ℕ) → StateNames (entry_state state) stamp (meta other) → other ≡ stamp
@@ -70,9 +74,15 @@ alone M view e found cell stands settled clean spot replica copy =
       no_meta = λ other stamp is. ap own_spot (sym (at other.vol (meta stamp) tt (bytes-standing (view other.vol (meta stamp)) is)).0 ∙ here);
     }
 
+-- a block without a pair has no copy
+pub waiting_whole : (view : View) → HasNoPair view → IsWholeIn view
+waiting_whole view none spot replica copy =
+    absurd (none spot.vol replica.stamp (bytes-standing (view spot.vol block) (ap is_some copy.block))
+    (bytes-standing (view spot.vol (meta replica.stamp)) (KeepsStamp-meta (files_in view) spot replica.stamp copy.stamp)))
+
 -- so is that of any block
-block_whole : (M : List ℕ → List ℕ → Type 0) (view : View) (entry : Option Entry) (found : List Leftover) (cell : Cell) → BlockStands M view (block_books entry found) cell →
-    (IsNotWaiting entry → found ≡ []) → (spot : Spot) (replica : Replica) → IsCopy (files_in view) spot replica → IsAlone (files_in view) spot
+pub block_whole : (M : List ℕ → List ℕ → Type 0) (view : View) (entry : Option Entry) (found : List Leftover) (cell : Cell) → BlockStands M view (block_books entry found) cell →
+    (IsNotWaiting entry → found ≡ []) → IsWholeIn view
 block_whole M view None found cell stands clean spot replica copy =
     absurd (own_file M view (block_books None found) cell stands spot.vol block tt (bytes-standing (view spot.vol block) (ap is_some copy.block)))
 block_whole M view (Some e) found absent stands clean spot replica copy = absurd stands.agrees
@@ -85,9 +95,7 @@ block_whole M view (Some e) found (growing stamp base bytes left) stands clean s
 block_whole M view (Some e) found (unsure x y cut) stands clean spot replica copy =
     let settled = not_waiting e.state (book_entry e) (unsure x y cut) refl stands.agrees (λ bad. absurd cc) in
     alone M view e found (unsure x y cut) stands settled (clean settled) spot replica copy
-block_whole M view (Some e) found waiting stands clean spot replica copy =
-    absurd (stands.content spot.vol replica.stamp (bytes-standing (view spot.vol block) (ap is_some copy.block))
-    (bytes-standing (view spot.vol (meta replica.stamp)) (KeepsStamp-meta (files_in view) spot replica.stamp copy.stamp)))
+block_whole M view (Some e) found waiting stands clean spot replica copy = waiting_whole view stands.content spot replica copy
 
 -- what the disks can leave now
 pub leaves_whole : {told : Option (List World)} {volumes : ℕ} {entries : ℕ → Option Entry} {found : ℕ → List Leftover} {sound : Bool} {cells : Cells} →
