@@ -4,14 +4,16 @@ use Rattle.std.proofs.lemmas.Bool.{false≢true}
 use Rattle.std.proofs.lemmas.List.Elements.{All-contains, All-get_or, Contains-get_or}
 use Rattle.disk_model.specs.Files.{Files}
 use Rattle.disk_model.specs.Worlds.{World}
-use Rattle.disk_model.specs.Told.{InEachWorld, PicksOne, CanLeave}
+use Rattle.disk_model.specs.Told.{InEachWorld, PicksOne, CanLeave, Leaves}
 use Rattle.disk_model.specs.Moments.{Elapses, AddsOnly}
-use Rattle.disk_model.proofs.Laws.{only_one}
+use Rattle.disk_model.proofs.Laws.{only_one, from_done}
 use Rattle.volume_layout.specs.Paths.{IsBlockId, IsStamp, meta_path}
 use Rattle.volume_layout.proofs.Reading.{is_stamp-IsStamp}
 use Rattle.map_model.specs.World.{DraftsAside}
-use Rattle.map_model.specs.Slots.{meta, is_standing, slot_of}
+use Rattle.map_model.specs.Slots.{meta, is_standing, slot_of, view_of}
 use Rattle.map_model.specs.Stands.{Leftover}
+use Rattle.map_model.proofs.Aside.{aside_no_draft}
+use Rattle.map_model.proofs.Places.{no_number}
 use Rattle.map_model.proofs.Bridge.{view_slot}
 use Rattle.pool_state.specs.declared.entry.Entry.{Entry}
 use Rattle.pool_survey.specs.declared.found.FoundFiles.{FoundFiles}
@@ -108,27 +110,27 @@ some_standing : (content : Option (List ℕ)) → IsSome content → is_standing
 some_standing None some = absurd (false≢true some)
 some_standing (Some bytes) some = refl
 
-module _ (image : Files) (survey : Survey) (told first : Option (List World)) (holds : HoldsImage told image)
-    (call : PicksOne (λ world. IsSurveyOf world 1 survey) (λ w. w) told first) (blocks : AreBlocks survey.blocks) where
-  abbrev plain : World
-  plain = record { settled = image; drafts = [] }
-
-  surveyed_plain : IsSurveyOf plain 1 survey
-  surveyed_plain =
-      let picked = call.picked (plain ∷ []) holds in
-      subst (λ w. IsSurveyOf w 1 survey) (sym (only_one plain picked.0 picked.1)) picked.2
-
+module _ (world : World) (image : Files) (survey : Survey) (surveyed : IsSurveyOf world 1 survey) (aside : DraftsAside world) (leaves : Leaves world image)
+    (blocks : AreBlocks survey.blocks) where
   module _ (id : ℕ) (valid : IsBlockId id) where
+    -- a finalised meta is settled
+    meta_slot : (stamp : ℕ) → IsStamp stamp → view_of world id 1 (meta stamp) ≡ slot_of None (image 1 (meta_path id stamp))
+    meta_slot stamp stamped =
+        let none = aside_no_draft id 1 (meta stamp) world refl aside in
+        view_slot world id 1 (meta stamp) (is_stamp-IsStamp stamp stamped)
+        ∙ ap (λ d. slot_of d (world.settled 1 (meta_path id stamp))) (no_number world 1 (meta_path id stamp) none)
+        ∙ ap (slot_of None) (sym (leaves.settled 1 (meta_path id stamp) none))
+
     -- a meta that was found stands in the image
     stands_in : (stamp : ℕ) → IsStamp stamp → Contains (metas_of (found_of survey.blocks id)) stamp → IsSome (image 1 (meta_path id stamp))
     stands_in stamp stamped has =
-        let there = ((surveyed_plain.blocks id valid).metas stamp).0 has in
-        standing_some (image 1 (meta_path id stamp)) (sym (ap is_standing (view_slot plain id 1 (meta stamp) (is_stamp-IsStamp stamp stamped))) ∙ there)
+        let there = ((surveyed.blocks id valid).metas stamp).0 has in
+        standing_some (image 1 (meta_path id stamp)) (sym (ap is_standing (meta_slot stamp stamped)) ∙ there)
 
     found_in : (stamp : ℕ) → IsStamp stamp → IsSome (image 1 (meta_path id stamp)) → Contains (metas_of (found_of survey.blocks id)) stamp
     found_in stamp stamped some =
-        ((surveyed_plain.blocks id valid).metas stamp).1
-        (ap is_standing (view_slot plain id 1 (meta stamp) (is_stamp-IsStamp stamp stamped)) ∙ some_standing (image 1 (meta_path id stamp)) some)
+        ((surveyed.blocks id valid).metas stamp).1
+        (ap is_standing (meta_slot stamp stamped) ∙ some_standing (image 1 (meta_path id stamp)) some)
 
     two_of : (stamps : List ℕ) → metas_of (found_of survey.blocks id) ≡ stamps → 1 < length stamps → HasTwoMetas image
     two_of stamps are long =
@@ -159,3 +161,19 @@ module _ (image : Files) (survey : Survey) (told first : Option (List World)) (h
   pub not_two_metas : ((id : ℕ) → length (metas_of (found_of survey.blocks id)) ≤ 1) → HasTwoMetas image → ⊥
   not_two_metas few two = two.apart (one_of (metas_of (found_of survey.blocks two.id)) two.stamp two.other (few two.id)
       (found_in two.id two.valid two.stamp two.in_range.0 two.stands) (found_in two.id two.valid two.other two.in_range.1 two.other_stands))
+
+-- every image that the disks can leave then has them
+pub left_two_metas : (survey : Survey) (told first : Option (List World)) → PicksOne (λ world. IsSurveyOf world 1 survey) (λ w. w) told first → InEachWorld told DraftsAside → AreBlocks survey.blocks →
+    (id : ℕ) → (files : FoundFiles) × (found_of survey.blocks id ≡ Some files) × (1 < length files.metas.items) → (image : Files) → CanLeave first image → HasTwoMetas image
+left_two_metas survey told first call aside blocks id some image leaves =
+    let from = from_done call leaves.0 leaves.1 in
+    two_metas leaves.0 image survey (subst (λ w. IsSurveyOf w 1 survey) (sym from.3) from.2) (subst DraftsAside (sym from.3) (aside from.0 from.1)) leaves.2 blocks id some
+
+-- where one meta of each block was found, the one image that was told has no two
+pub told_no_two_metas : (image : Files) (survey : Survey) (told first : Option (List World)) → HoldsImage told image →
+    PicksOne (λ world. IsSurveyOf world 1 survey) (λ w. w) told first → AreBlocks survey.blocks → ((id : ℕ) → length (metas_of (found_of survey.blocks id)) ≤ 1) → HasTwoMetas image → ⊥
+told_no_two_metas image survey told first holds call blocks few two =
+    let plain : World = record { settled = image; drafts = [] } in
+    let picked = call.picked (plain ∷ []) holds in
+    not_two_metas plain image survey (subst (λ w. IsSurveyOf w 1 survey) (sym (only_one plain picked.0 picked.1)) picked.2) (λ vol path aside. refl)
+    (record { drafts = λ vol path there. absurd (false≢true there); settled = λ vol path none. refl }) blocks few two

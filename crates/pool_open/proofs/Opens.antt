@@ -157,15 +157,19 @@ module _ (survey : Survey) (table : IsTable survey) (was : World) (surveyed : Is
       subst (λ (files : BlockFiles). HasSoundCopies Matches files) (sym (image_files now image id (clears.aside surveyed.aside) leaves))
       (sound_partly Matches found (view_of was id) (view_of now id) own as_now before)
 
-  pub cleared_reads_back : (now : World) (image : Files) → Clears (plan_of survey) was now → Leaves now image → ReadsBack was image
-  cleared_reads_back now image clears leaves = record { alike = cleared_reads now image clears leaves; sound = cleared_sound now image clears leaves }
-
   -- and has one whole copy of each block at most
   pub cleared_whole : (now : World) (image : Files) → Clears (plan_of survey) was now → Leaves now image → OneWhole image
   cleared_whole now image clears leaves id valid =
       subst (λ (files : BlockFiles). (spot : Spot) (replica : Replica) → IsCopy files spot replica → IsAlone files spot)
       (sym (image_files now image id (clears.aside surveyed.aside) leaves))
       (alone_partly (found_of survey.blocks id) (view_of was id) (view_of now id) (partly survey table was now surveyed clears id valid))
+
+  pub cleared_reads_back : (now : World) (image : Files) → Clears (plan_of survey) was now → Leaves now image → ReadsBack was image
+  cleared_reads_back now image clears leaves = record {
+    alike = cleared_reads now image clears leaves;
+    sound = cleared_sound now image clears leaves;
+    whole = λ own. cleared_whole now image clears leaves;
+  }
 
   module _ (id : ℕ) (valid : IsBlockId id) where
     own : Partly (found_of survey.blocks id) (view_of was id) (view_of was id)

@@ -7,7 +7,7 @@ use Rattle.disk_model.specs.Told.{IsWorldOf, InEachWorld, CanLeave}
 use Rattle.disk_model.specs.Moments.{AddsOnly}
 use Rattle.map_model.specs.Cells.{Replica, Cell, Cells, absent, final, waiting}
 use Rattle.map_model.specs.Checksums.{Matches}
-use Rattle.map_model.specs.Copies.{OneWhole}
+use Rattle.map_model.specs.Copies.{Spot, IsCopy, IsAlone, OneWhole}
 use Rattle.map_model.specs.Openings.{MakesCells, shown_files, ReadsAlike}
 use Rattle.map_model.specs.Sound.{HasSoundCopies, IsSound}
 use Rattle.map_model.specs.Stands.{Leftover}
@@ -47,10 +47,15 @@ disks_of (Err fault) = fault_disks fault
 abbrev pub HasSoundFiles : World → Type 0
 HasSoundFiles world = (id : ℕ) → IsBlockId id → HasSoundCopies Matches (shown_files world id)
 
--- the image reads as the world does, and its copies match their meta files where those of the world do
+-- of each block of the world that has a copy one whole copy stands, and no other finalised file
+abbrev pub HasWholeFiles : World → Type 0
+HasWholeFiles world = (id : ℕ) → IsBlockId id → (spot : Spot) (replica : Replica) → IsCopy (shown_files world id) spot replica → IsAlone (shown_files world id) spot
+
+-- the image reads as the world does; its copies match their meta files, and are whole, where those of the world are
 pub record ReadsBack (world : World) (image : Files) : Type 0 where
   pub alike : ReadsAlike (shown_files world) image
   pub sound : HasSoundFiles world → IsSound image
+  pub whole : HasWholeFiles world → OneWhole image
 
 -- the image reads as one of these worlds does
 abbrev pub ReadsAsOne : Option (List World) → Files → Type 0

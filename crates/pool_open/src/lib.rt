@@ -8,7 +8,7 @@ mod opening;
 mod outcome;
 mod paths;
 
-pub use opening::{OpenFault, open_pool};
+pub use opening::{OpenFault, ReopenFault, open_pool, reopen_pool};
 
 #[cfg(test)]
 mod tests;
