@@ -1,5 +1,5 @@
 -- What the answer to a line shows.
-use Rattle.std.proofs.Common.{◌≡◌, ℕ, ◌⊎◌, inl, inr, List, [], ◌∷◌, refl, ap, sym, ◌∙◌, subst, arith, Option, Some, None, Result, Ok, Err}
+use Rattle.std.proofs.Common.{◌≡◌, ℕ, zero, suc, ◌≤◌, ◌⊎◌, inl, inr, List, [], ◌∷◌, refl, ap, sym, ◌∙◌, subst, arith, Option, Some, None, Result, Ok, Err}
 use Rattle.std.proofs.lemmas.List.{append-nil}
 use Rattle.std.specs.Io.KnownBytes.{Appends}
 use Rattle.disk_model.specs.Worlds.{World}
@@ -7,20 +7,25 @@ use Rattle.line_io.specs.Written.{AppendsFront}
 use Rattle.script_lang.specs.declared.LineFault.{LineFault}
 use Rattle.script_lang.specs.declared.LineFault.TheVariants.{Bad, Later as NotYet, Memory}
 use Rattle.script_lang.specs.declared.Line.{Line}
-use Rattle.script_lang.specs.declared.Line.TheVariants.{Blank, Open, Push, Finish, Write, Read, Delete}
+use Rattle.script_lang.specs.declared.Line.TheVariants.{Blank, Open, Push, Finish, Write, Read, Delete, Reopen}
 use Rattle.script_lang.specs.declared.reply.Reply.{Reply}
 use Rattle.script_lang.specs.Reply.{reply_line}
 use Rattle.script_lang.specs.Script.{line_of}
-use Rattle.dn_play.specs.declared.ending.Ending.TheVariants.{SinkFault, NoMemory, Outside, Later}
-use Rattle.dn_play.specs.State.{RunState, Mark, IsLater, Turn}
+use Rattle.dn_play.specs.declared.ending.Ending.TheVariants.{SinkFault, NoMemory, Outside, OpenFault, Later}
+use Rattle.dn_play.specs.State.{RunState, Mark, IsLater, Turn, last_state}
 use Rattle.dn_play.specs.Commands.{Trust}
 use Rattle.dn_play.specs.Lines.{Follows}
-use Rattle.dn_play.specs.Standing.{IsKnown, IsCommand, LineCarried}
+use Rattle.dn_play.specs.Standing.{IsKnown, IsCommand, IsOnBlock, LineCarried, LeavesAllowed, AnyCells}
 use Rattle.dn_play.specs.Script.{Script, script_after, goes_on, prepend}
 use Rattle.disk_model.specs.Files.{Files}
+use Rattle.disk_model.specs.Told.{CanLeave}
+use Rattle.disk_model.specs.Causes.{Rose}
+use Rattle.pool_open.specs.declared.opening.ReopenFault.{ReopenFault}
+use Rattle.pool_open.specs.declared.opening.ReopenFault.TheVariants.{Failed, Memory as NoRoom, Later as TwoMetas}
+use Rattle.dn_play.specs.declared.ending.Ending.{Ending}
 use Rattle.map_model.specs.Cells.{Cells}
-use Rattle.dn_play.specs.Images.{AllowedSince, LinesCrashSafe}
-use Rattle.dn_play.specs.Answer.{Answered, Unanswered, FirstOfLine}
+use Rattle.dn_play.specs.Images.{AllowedSince, StaysCrashSafe, LinesCrashSafe}
+use Rattle.dn_play.specs.Answer.{Answered, Unanswered, FirstOfLine, SaysUpTo, EndsAt, reopen_ending}
 
 -- where nothing is written
 pub appends_nothing : (taken : Option (List ℕ)) → Appends taken taken []
@@ -36,6 +41,18 @@ is_command (Finish id) h = tt
 is_command (Write id stamp bytes) h = tt
 is_command (Read id) h = tt
 is_command (Delete id) h = tt
+is_command Reopen h = tt
+
+-- and one that isn't `reopen` is one on a block
+pub on_block : (line : Line) → IsCommand line → (line ≡ Reopen → ⊥) → IsOnBlock line
+on_block Blank is apart = absurd is
+on_block (Open id stamp need) is apart = tt
+on_block (Push id piece) is apart = tt
+on_block (Finish id) is apart = tt
+on_block (Write id stamp bytes) is apart = tt
+on_block (Read id) is apart = tt
+on_block (Delete id) is apart = tt
+on_block Reopen is apart = absurd (apart refl)
 
 -- a command stands before those behind it
 command_says : (line : Line) → IsCommand line → (rest : Script) → goes_on line rest ≡ prepend (line ∷ []) rest
@@ -46,6 +63,7 @@ command_says (Finish id) h rest = refl
 command_says (Write id stamp bytes) h rest = refl
 command_says (Read id) h rest = refl
 command_says (Delete id) h rest = refl
+command_says Reopen h rest = refl
 
 -- an answer that is not for want of memory is what the text says
 pub told_ok : (text : List ℕ) (line : Line) → (Ok line ≡ Err Memory) ⊎ (Ok line ≡ line_of text) → line_of text ≡ Ok line
@@ -57,9 +75,21 @@ told_bad text fault column is h = elim h [ inl e ↦ absurd cc | inr e ↦ sym e
 pub told_later : (text : List ℕ) (fault : LineFault) → fault ≡ NotYet → (◌≡◌ {A = Result Line LineFault} (Err fault) (Err Memory)) ⊎ (Err fault ≡ line_of text) → line_of text ≡ Err NotYet
 told_later text fault is h = elim h [ inl e ↦ absurd cc | inr e ↦ sym e ∙ ap Err is ]
 
+-- the counts stay
+pub mark_stays : (mark : Mark) → IsLater mark mark
+mark_stays mark = record { faults = omega arith; next_number = omega arith; moment = omega arith }
+
+ends_later : (number : ℕ) (mark : Mark) → EndsAt (Later number) mark mark
+ends_later zero mark = mark_stays mark
+ends_later (suc number) mark = refl
+
+says_later : (number : ℕ) (text : List ℕ) → line_of text ≡ Err NotYet → 1 ≤ number → SaysUpTo number text [] (Later number)
+says_later zero text e some = absurd (omega (arith, some))
+says_later (suc number) text e some = (refl, refl, e)
+
 -- where no line was carried out
 pub no_lines : {before : Mark} {state : RunState} {Sound : Cells → Type 0} {past : ℕ → Files → Type 0} → AllowedSince past before.moment state [] → LinesCrashSafe before state [] Sound Sound past past
-no_lines now = record { images = λ t image s. inl s; each = now; sound = λ sound. sound; sound_images = λ sound t image s. inl s }
+no_lines now = record { images = λ t image s. inl s; each = now; sound = λ sound. sound; sound_images = λ sound t image s. inl s; whole = λ t image s. inl s }
 
 module _ {Faulty : ℕ → ℕ → Type 0} {told : Option (List World)} {state : RunState} {before : Mark} {StandsFor : RunState → Type 0} {Sound : Cells → Type 0} {past : ℕ → Files → Type 0}
     (stands : StandsFor state) (now : AllowedSince past before.moment state []) where
@@ -90,14 +120,14 @@ module _ {Faulty : ℕ → ℕ → Type 0} {told : Option (List World)} {state :
   }
 
   -- a line that isn't carried out yet
-  pub unanswered_later : (taken : Option (List ℕ)) (number : ℕ) (text : List ℕ) → line_of text ≡ Err NotYet → Unanswered Faulty told state before before taken taken number text (Later number) StandsFor Sound Sound past past
-  unanswered_later taken number text e = record {
+  pub unanswered_later : (taken : Option (List ℕ)) (number : ℕ) (text : List ℕ) → line_of text ≡ Err NotYet → 1 ≤ number → Unanswered Faulty told state before before taken taken number text (Later number) StandsFor Sound Sound past past
+  unanswered_later taken number text e some = record {
     turns = [];
     shown = [];
-    says = (refl, refl, e);
+    says = says_later number text e some;
     follows = λ trust known. tt;
     stands = stands;
-    at_mark = refl;
+    at_mark = ends_later number before;
     crash = no_lines now;
     shows = refl;
     written = appends_nothing taken;
@@ -111,7 +141,7 @@ module _ {Faulty : ℕ → ℕ → Type 0} {told : Option (List World)} {state :
     says = λ rest. ((script_after number (line_of text) rest).commands, refl);
     follows = λ trust known. tt;
     stands = stands;
-    at_mark = refl;
+    at_mark = mark_stays before;
     crash = no_lines now;
     shows = ([], refl, omega arith);
     written = appends_nothing taken;
@@ -141,6 +171,7 @@ module _ {Faulty : ℕ → ℕ → Type 0} {told : Option (List World)} {state :
       );
       sound = carried.crash.sound;
       sound_images = carried.crash.sound_images;
+      whole = carried.crash.whole;
     }
 
     first_command : FirstOfLine number text (line ∷ [])
@@ -166,7 +197,7 @@ module _ {Faulty : ℕ → ℕ → Type 0} {told : Option (List World)} {state :
       says = first_command;
       follows = follows;
       stands = carried.stands;
-      at_mark = refl;
+      at_mark = mark_stays after;
       crash = safe;
       shows = (reply ∷ [], refl, omega arith);
       written = appends_nothing taken;
@@ -185,3 +216,88 @@ module _ {Faulty : ℕ → ℕ → Type 0} {told : Option (List World)} {state :
       shows = refl;
       written = subst (AppendsFront taken taken') (sym (append-nil (reply_line reply))) written;
     }
+
+-- less is said of the cells then
+pub lines_less : {before : Mark} {state : RunState} {turns : List Turn} {Sound SoundNow : Cells → Type 0} {past since : ℕ → Files → Type 0} → LinesCrashSafe before state turns Sound SoundNow past since →
+    LinesCrashSafe before state turns Sound AnyCells past since
+lines_less crash = record { images = crash.images; each = crash.each; sound = λ sound. tt; sound_images = crash.sound_images; whole = crash.whole }
+
+-- less is said of where the session stands then
+pub unanswered_less : {Faulty : ℕ → ℕ → Type 0} {told : Option (List World)} {state : RunState} {before after : Mark} {taken taken' : Option (List ℕ)} {number : ℕ} {text : List ℕ} {ending : Ending}
+    {StandsFor Less : RunState → Type 0} {Sound SoundNow : Cells → Type 0} {past since : ℕ → Files → Type 0} → Unanswered Faulty told state before after taken taken' number text ending StandsFor Sound SoundNow past since →
+    ((s : RunState) → StandsFor s → Less s) → Unanswered Faulty told state before after taken taken' number text ending Less Sound AnyCells past since
+unanswered_less {state = state} u weaken = record {
+  turns = u.turns;
+  shown = u.shown;
+  says = u.says;
+  follows = u.follows;
+  stands = weaken (last_state state u.turns) u.stands;
+  at_mark = u.at_mark;
+  crash = lines_less u.crash;
+  shows = u.shows;
+  written = u.written;
+}
+
+-- an opening again that wasn't done
+module _ {told now : Option (List World)} (state : RunState) {before after : Mark} {Sound : Cells → Type 0} {past since : ℕ → Files → Type 0}
+    (counts : IsLater before after) (first : AllowedSince past before.moment state []) (stays : StaysCrashSafe state.cells Sound past since)
+    (leaves : (image : Files) → CanLeave now image → since before.moment image) (only : (image : Files) → past before.moment image → CanLeave told image)
+    (was : LeavesAllowed told state) where
+  -- it allows what the cells before it allow
+  stayed : LeavesAllowed now state
+  stayed image left = elim (stays.images before.moment image (leaves image left)) [
+    | inl earlier ↦ (first image earlier, (was image (only image earlier)).1)
+    | inr allows ↦ (allows, elim (stays.whole before.moment image (leaves image left)) [
+      | inl earlier ↦ (was image (only image earlier)).1
+      | inr whole ↦ whole
+    ])
+  ]
+
+  crashed : LinesCrashSafe before state [] Sound AnyCells past since
+  crashed = record {
+    images = stays.images;
+    each = λ image s. elim (stays.images before.moment image s) [ inl earlier ↦ first image earlier | inr allows ↦ allows ];
+    sound = λ sound. tt;
+    sound_images = stays.sound_images;
+    whole = stays.whole;
+  }
+
+  pub unanswered_reopen : (Faulty : ℕ → ℕ → Type 0) (taken : Option (List ℕ)) (number : ℕ) (text : List ℕ) (fault : ReopenFault) (ending : Ending) → ending ≡ reopen_ending fault →
+      line_of text ≡ Ok Reopen → (fault ≡ Failed → Rose before.faults after.faults) → Unanswered Faulty told state before after taken taken number text ending (LeavesAllowed now) Sound AnyCells past since
+  unanswered_reopen Faulty taken number text fault ending is e rose =
+      subst (λ (x : Ending). Unanswered Faulty told state before after taken taken number text x (LeavesAllowed now) Sound AnyCells past since) (sym is) (by_fault fault rose)
+    where
+      by_fault : (f : ReopenFault) → (f ≡ Failed → Rose before.faults after.faults) → Unanswered Faulty told state before after taken taken number text (reopen_ending f) (LeavesAllowed now) Sound AnyCells past since
+      by_fault Failed rose = record {
+        turns = [];
+        shown = [];
+        says = (refl, e);
+        follows = λ trust known. tt;
+        stands = stayed;
+        at_mark = (counts, rose refl);
+        crash = crashed;
+        shows = refl;
+        written = appends_nothing taken;
+      }
+      by_fault NoRoom rose = record {
+        turns = [];
+        shown = [];
+        says = λ rest. ((script_after number (line_of text) rest).commands, refl);
+        follows = λ trust known. tt;
+        stands = stayed;
+        at_mark = counts;
+        crash = crashed;
+        shows = ([], refl, omega arith);
+        written = appends_nothing taken;
+      }
+      by_fault TwoMetas rose = record {
+        turns = [];
+        shown = [];
+        says = (refl, e);
+        follows = λ trust known. tt;
+        stands = stayed;
+        at_mark = counts;
+        crash = crashed;
+        shows = refl;
+        written = appends_nothing taken;
+      }

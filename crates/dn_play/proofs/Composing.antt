@@ -6,7 +6,7 @@ use Rattle.disk_model.specs.Files.{Files}
 use Rattle.disk_model.specs.Moments.{AddsOnly}
 use Rattle.map_model.specs.Cells.{Cell, Cells, absent, growing}
 use Rattle.map_model.specs.Allows.{AllowsFiles, AllowsImage}
-use Rattle.map_model.specs.Copies.{BlockFiles, block_files}
+use Rattle.map_model.specs.Copies.{BlockFiles, block_files, OneWhole}
 use Rattle.map_model.specs.Sound.{IsSound}
 use Rattle.map_model.specs.Steps.{Command, Reply as Answer}
 use Rattle.pool_state.specs.Answers.{StepsTo, TakesStep}
@@ -25,6 +25,7 @@ pub record Grows (id : ℕ) (cells : Cells) (cell : Cell) (Stood StandsFor : Boo
   pub stands : (sound : Bool) → Stood sound cells → StandsFor sound (with_cell cells id cell)
   pub images : AddsOnly past since (AllowsImage cells)
   pub sound_images : Stood true cells → AddsOnly past since IsSound
+  pub whole_images : AddsOnly past since OneWhole
 
 -- what a growing block without a base allows, an absent one does
 grown_allows : (cell : Cell) (stamp left : ℕ) (bytes : List ℕ) (files : BlockFiles) → cell ≡ growing stamp None bytes left → AllowsFiles cell files → AllowsFiles absent files
@@ -52,6 +53,7 @@ grows_started {id} {cells = cells} start stamp left was is = record {
     | inr (inr after) ↦ inr (still_absent cells id start.to.cell stamp left [] image was is after)
   ];
   sound_images = start.sound_images;
+  whole_images = start.whole_images;
 }
 
 -- after a push
@@ -61,6 +63,7 @@ grows_pushed {id} {cells = cells} {cell = cell} {Then = Then} grows push = recor
   stands = λ sound old. subst (Then sound) (with_cell-again cells id cell push.cell) (push.stands sound (grows.stands sound old));
   images = grows.images;
   sound_images = grows.sound_images;
+  whole_images = grows.whole_images;
 }
 
 -- and it is ended
@@ -80,5 +83,9 @@ module _ {id : ℕ} {command : Command} {answer : Answer} {SaysOf : Cell → Typ
     sound_images = λ old t image s. elim (end.sound_images (grows.stands true old) t image s) [
       | inl earlier ↦ grows.sound_images old t image earlier
       | inr is_sound ↦ inr is_sound
+    ];
+    whole = λ t image s. elim (end.whole_images t image s) [
+      | inl earlier ↦ grows.whole_images t image earlier
+      | inr is_whole ↦ inr is_whole
     ];
   }

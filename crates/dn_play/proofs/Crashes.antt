@@ -15,6 +15,8 @@ use Rattle.pool_state.specs.declared.entry.Entry.{Entry}
 use Rattle.pool_state.specs.Books.{block_books}
 use Rattle.pool_state.specs.Stands.{PoolStands}
 use Rattle.dn_play.specs.State.{RunState, Mark, Turn, last_state, last_mark}
+use Rattle.pool_state.proofs.Whole.{leaves_whole}
+use Rattle.map_model.specs.Copies.{OneWhole}
 use Rattle.dn_play.specs.Images.{AllowedByOne, AllowedSinceEach, LinesCrashSafe}
 
 -- what the disks can leave now, the cells of the pool allow
@@ -37,6 +39,11 @@ leaves_sound {told} {volumes} {entries} {found} {cells} stands image leaves =
 pub now_allowed : {told : Option (List World)} {volumes : ℕ} {entries : ℕ → Option Entry} {found : ℕ → List Leftover} {cells : Cells} {since : Files → Type 0} → PoolStands told volumes entries found false cells →
     ((image : Files) → since image → CanLeave told image) → (image : Files) → since image → AllowsImage cells image
 now_allowed stands only image s = leaves_allowed stands image (only image s)
+
+-- what the disks can leave where the pool stands
+pub leaves_safe : {told : Option (List World)} {volumes : ℕ} {entries : ℕ → Option Entry} {found : ℕ → List Leftover} {cells : Cells} → PoolStands told volumes entries found false cells →
+    (image : Files) → CanLeave told image → AllowsImage cells image × OneWhole image
+leaves_safe stands image leaves = (leaves_allowed stands image leaves, leaves_whole stands image leaves)
 
 -- lines behind lines
 in_front : (state : RunState) (turns more : List Turn) (image : Files) → AllowedByOne state turns image → AllowedByOne state (turns ++ more) image
@@ -80,6 +87,10 @@ crash_on {mark} {now} {state} {turns} {more} {Sound} {Between} {SoundNow} {past}
   sound = λ sound. subst (λ (s : RunState). SoundNow s.cells) (sym (last_after state turns more)) (second.sound (first.sound sound));
   sound_images = λ sound t image s. elim (second.sound_images (first.sound sound) t image s) [
     | inl earlier ↦ first.sound_images sound t image earlier
+    | inr is ↦ inr is
+  ];
+  whole = λ t image s. elim (second.whole t image s) [
+    | inl earlier ↦ first.whole t image earlier
     | inr is ↦ inr is
   ];
 }

@@ -1,19 +1,23 @@
 -- A run's last line, and what its status says.
-use Rattle.std.proofs.Common.{◌≡◌, ◌≢◌, ℕ, ◌+◌, ◌≤◌, ◌⊎◌, ◌==◌, inl, inr, suc, zero, List, [], ◌++◌, length, take, refl, ap, sym, ◌∙◌, subst, arith, Option, Some, None, IfSome, true, false, MatchBool, Bool}
-use Rattle.std.proofs.lemmas.List.{append-nil}
+use Rattle.std.proofs.Common.{◌≡◌, ◌≢◌, ℕ, ◌+◌, ◌≤◌, ◌⊎◌, ◌==◌, inl, inr, suc, zero, List, [], ◌∷◌, ◌++◌, length, take, refl, ap, sym, ◌∙◌, subst, arith, Option, Some, None, IfSome, true, false, MatchBool, Bool}
+use Rattle.std.proofs.lemmas.List.{append-nil, append_assoc}
 use Rattle.std.specs.Io.KnownBytes.{Appends}
 use Rattle.disk_model.specs.Causes.{Rose}
 use Rattle.line_io.specs.Written.{AppendsFront}
 use Rattle.script_lang.specs.declared.Line.{Line}
+use Rattle.script_lang.specs.declared.Line.TheVariants.{Reopen}
 use Rattle.script_lang.specs.declared.reply.Reply.{Reply}
 use Rattle.dn_play.specs.declared.ending.Ending.{Ending}
 use Rattle.dn_play.specs.declared.ending.Ending.TheVariants.{Complete, Usage, SourceFault, SinkFault, NoMemory, Outside, OpenFault, Limit, Later}
-use Rattle.dn_play.specs.State.{Mark, turn_lines, turn_replies}
+use Rattle.dn_play.specs.State.{RunState, Mark, IsLater, Turn, last_mark, turn_lines, turn_replies}
+use Rattle.dn_play.specs.Commands.{any_disks}
+use Rattle.dn_play.specs.Lines.{Follows}
 use Rattle.dn_play.specs.Script.{script_of}
 use Rattle.dn_play.specs.Session.{status_of, status_at, last_line, Writes, WritesReplies, Shows, Reads, FirstCommands, Declines, text_of}
-use Rattle.dn_play.specs.Answer.{Closed, IsOfLines}
+use Rattle.dn_play.specs.Answer.{Closed, IsOfLines, EndsAt}
 use Rattle.disk_model.specs.Files.{Files}
 use Rattle.dn_play.specs.Play.{Course, Goes, RunsPool, Runs}
+use Rattle.dn_play.proofs.Answering.{mark_stays}
 use Rattle.dn_play.proofs.Progress.{appends_append, take_behind, rose_from}
 
 front_then : (old mid new : Option (List ℕ)) (xs ys : List ℕ) → Appends old mid xs → AppendsFront mid new ys → AppendsFront old new (xs ++ ys)
@@ -46,14 +50,42 @@ written_both SinkFault status old mid new xs h is k =
     let three : status ≡ 3 = elim is [ inl e ↦ e | inr e ↦ e ] in
     subst (λ (s : ℕ). Writes s old new (xs ++ [])) (sym three) (front_stays old mid new xs h (subst (λ (s : ℕ). Writes s mid new []) three k))
 
+-- the commands before an opening again
+before_reopen : (bytes : List ℕ) (commands : List Line) → FirstCommands bytes (commands ++ Reopen ∷ []) → FirstCommands bytes commands
+before_reopen bytes commands h = (Reopen ∷ h.0, h.1 ∙ append_assoc commands (Reopen ∷ []) h.0)
+
+later_same : (last end : Mark) → last ≡ end → IsLater last end
+later_same last end is = subst (λ m. IsLater last m) is (mark_stays last)
+
+-- the counts don't fall
+ends_weaker : (ending : Ending) (last end : Mark) → EndsAt ending last end → EndsAt NoMemory last end
+ends_weaker Complete last end h = later_same last end h
+ends_weaker Usage last end h = later_same last end h
+ends_weaker SourceFault last end h = later_same last end h
+ends_weaker SinkFault last end h = later_same last end h
+ends_weaker NoMemory last end h = h
+ends_weaker (Outside line column) last end h = later_same last end h
+ends_weaker OpenFault last end h = h.0
+ends_weaker (Limit line) last end h = later_same last end h
+ends_weaker (Later zero) last end h = h
+ends_weaker (Later (suc line)) last end h = later_same last end h
+
+-- the lines keep the order of the counts
+follows_later : (Faulty : ℕ → ℕ → Type 0) (state : RunState) (mark : Mark) (turns : List Turn) → Follows any_disks Faulty state mark turns → mark.faults ≤ (last_mark mark turns).faults
+follows_later Faulty state mark [] follows = omega arith
+follows_later Faulty state mark (turn ∷ turns) follows =
+    let rest = follows_later Faulty turn.state turn.mark turns follows.1 in
+    omega (arith, rest, follows.0.counts.faults)
+
 -- what an ending for want of memory leaves of the others
 reads_weaker : (bytes : List ℕ) (commands : List Line) (ending : Ending) → Reads bytes commands ending → FirstCommands bytes commands
 reads_weaker bytes commands Complete h = ([], ap (λ s. s.commands) h ∙ sym (append-nil commands))
 reads_weaker bytes commands (Outside line column) h = ([], ap (λ s. s.commands) h ∙ sym (append-nil commands))
 reads_weaker bytes commands (Limit line) h = ([], ap (λ s. s.commands) h ∙ sym (append-nil commands))
-reads_weaker bytes commands (Later line) h = ([], ap (λ s. s.commands) h ∙ sym (append-nil commands))
+reads_weaker bytes commands (Later zero) h = before_reopen bytes commands h
+reads_weaker bytes commands (Later (suc line)) h = ([], ap (λ s. s.commands) h ∙ sym (append-nil commands))
 reads_weaker bytes commands Usage h = absurd h
-reads_weaker bytes commands OpenFault h = absurd h
+reads_weaker bytes commands OpenFault h = before_reopen bytes commands h
 reads_weaker bytes commands SourceFault h = h
 reads_weaker bytes commands SinkFault h = h
 reads_weaker bytes commands NoMemory h = h
@@ -97,7 +129,7 @@ goes_weaker Faulty since can_leave course ending shown goes = elim goes [
     from_start = r.from_start;
     counts = r.counts;
     follows = r.follows;
-    at_exit = r.at_exit;
+    at_exit = ends_weaker ending (last_mark r.mark r.turns) course.exit r.at_exit;
     read = told_weaker course.input (turn_lines r.turns) ending r.read;
     shows = shows_weaker (turn_replies r.turns) shown ending r.shows;
     of_lines = tt;
@@ -105,6 +137,8 @@ goes_weaker Faulty since can_leave course ending shown goes = elim goes [
     images_each = r.images_each;
     images_at_exit = r.images_at_exit;
     whole_at_exit = r.whole_at_exit;
+    whole = r.whole;
+    later = λ e. absurd (cc e);
     sound = r.sound;
   })
 ]
@@ -217,7 +251,10 @@ not_usage Faulty since can_leave course shown ending goes e = elim goes [
 pub opening_failed : (Faulty : ℕ → ℕ → Type 0) (since : ℕ → Files → Type 0) (can_leave : Files → Type 0) (course : Course) (shown : List Reply) (ending : Ending) → Goes Faulty since can_leave course ending shown → ending ≡ OpenFault → Rose course.entry.faults course.exit.faults
 opening_failed Faulty since can_leave course shown ending goes e = elim goes [
   | inl s ↦ s.open_fault e
-  | inr r ↦ absurd (subst IsOfLines e r.of_lines)
+  | inr r ↦
+      let at : EndsAt OpenFault (last_mark r.mark r.turns) course.exit = subst (λ (x : Ending). EndsAt x (last_mark r.mark r.turns) course.exit) e r.at_exit in
+      let lines = follows_later Faulty r.first r.mark r.turns (r.follows any_disks tt) in
+      rose_from course.entry.faults (last_mark r.mark r.turns).faults course.exit.faults (omega (arith, r.counts.faults, lines)) at.1
 ]
 
 pub rose_to : (first before now : ℕ) → Rose first before → before ≤ now → Rose first now
@@ -228,17 +265,18 @@ pub rose_in : (ending : Ending) (first before now : ℕ) → (ending ≡ SinkFau
 rose_in ending first before now rose h k is = elim is [ inl e ↦ rose_to first before now (rose e) k | inr r ↦ rose_from first before now h r ]
 
 -- the place where the script stops, by the ending of a run
-lines_stop : {A B C : Type 0} (bytes : List ℕ) (commands : List Line) (ending : Ending) (status : ℕ) → IsOfLines ending → Reads bytes commands ending → (ending ≡ SourceFault → status ≡ 2 → A) → (status ≡ 3 → B) → (status ≡ status_of ending) →
+lines_stop : {A B C : Type 0} (bytes : List ℕ) (commands : List Line) (ending : Ending) (status : ℕ) → IsOfLines ending → Reads bytes commands ending → (ending ≡ SourceFault → status ≡ 2 → A) → (status ≡ 3 → B) → (ending ≡ OpenFault → C) → (status ≡ status_of ending) →
     (status ≡ status_at (script_of bytes).stop) ⊎ (status ≡ 4) ⊎ (status ≡ 8) ⊎ A ⊎ B ⊎ C
-lines_stop bytes commands Complete status of_lines h source sink is = inl (is ∙ ap (λ s. status_at s.stop) (sym h))
-lines_stop bytes commands Usage status of_lines h source sink is = absurd of_lines
-lines_stop bytes commands SourceFault status of_lines h source sink is = inr (inr (inr (inl (source refl is))))
-lines_stop bytes commands SinkFault status of_lines h source sink is = inr (inr (inr (inr (inl (sink is)))))
-lines_stop bytes commands NoMemory status of_lines h source sink is = inr (inl is)
-lines_stop bytes commands (Outside line column) status of_lines h source sink is = inl (is ∙ ap (λ s. status_at s.stop) (sym h))
-lines_stop bytes commands OpenFault status of_lines h source sink is = absurd of_lines
-lines_stop bytes commands (Limit line) status of_lines h source sink is = inl (is ∙ ap (λ s. status_at s.stop) (sym h))
-lines_stop bytes commands (Later line) status of_lines h source sink is = inl (is ∙ ap (λ s. status_at s.stop) (sym h))
+lines_stop bytes commands Complete status of_lines h source sink disks is = inl (is ∙ ap (λ s. status_at s.stop) (sym h))
+lines_stop bytes commands Usage status of_lines h source sink disks is = absurd of_lines
+lines_stop bytes commands SourceFault status of_lines h source sink disks is = inr (inr (inr (inl (source refl is))))
+lines_stop bytes commands SinkFault status of_lines h source sink disks is = inr (inr (inr (inr (inl (sink is)))))
+lines_stop bytes commands NoMemory status of_lines h source sink disks is = inr (inl is)
+lines_stop bytes commands (Outside line column) status of_lines h source sink disks is = inl (is ∙ ap (λ s. status_at s.stop) (sym h))
+lines_stop bytes commands OpenFault status of_lines h source sink disks is = inr (inr (inr (inr (inr (disks refl)))))
+lines_stop bytes commands (Limit line) status of_lines h source sink disks is = inl (is ∙ ap (λ s. status_at s.stop) (sym h))
+lines_stop bytes commands (Later zero) status of_lines h source sink disks is = inr (inr (inl is))
+lines_stop bytes commands (Later (suc line)) status of_lines h source sink disks is = inl (is ∙ ap (λ s. status_at s.stop) (sym h))
 
 stop_of : {A B C : Type 0} (Faulty : ℕ → ℕ → Type 0) (since : ℕ → Files → Type 0) (can_leave : Files → Type 0) (course : Course) (bytes : List ℕ) (ending : Ending) (shown : List Reply) (status : ℕ) → course.input ≡ Some bytes → Goes Faulty since can_leave course ending shown → (status ≡ status_of ending) ⊎ (status ≡ 3) →
     (ending ≡ SourceFault → status ≡ 2 → A) → (status ≡ 3 → B) → (Rose course.entry.faults course.exit.faults → C) →
@@ -250,7 +288,7 @@ stop_of Faulty since can_leave course bytes ending shown status told goes is sou
       | inl e ↦ inr (inl (k ∙ ap status_of e))
       | inr e ↦ elim e [ inl j ↦ inr (inr (inr (inr (inr (disks (s.open_fault j)))))) | inr j ↦ inr (inr (inl (k ∙ ap status_of j))) ]
     ]
-    | inr r ↦ lines_stop bytes (turn_lines r.turns) ending status r.of_lines (subst (λ i. IfSome i (λ input. Reads input (turn_lines r.turns) ending)) told r.read) source sink k
+    | inr r ↦ lines_stop bytes (turn_lines r.turns) ending status r.of_lines (subst (λ i. IfSome i (λ input. Reads input (turn_lines r.turns) ending)) told r.read) source sink (λ e. disks (opening_failed Faulty since can_leave course shown ending (inr r) e)) k
   ]
 ]
 

@@ -2,6 +2,7 @@ pub mod Stepping
 pub mod Stepped
 pub mod Composing
 pub mod Crashes
+pub mod FoundAgain
 pub mod Answering
 pub mod Marks
 pub mod Progress

@@ -6,10 +6,12 @@ use Rattle.std.proofs.lemmas.Option.{same_Some}
 use Rattle.volume_layout.specs.Paths.{IsBlockId}
 use Rattle.disk_model.specs.Worlds.{World}
 use Rattle.disk_model.specs.Files.{Files}
-use Rattle.disk_model.specs.Told.{IsWorldOf, InEachWorld, CanLeave}
+use Rattle.disk_model.specs.Told.{IsWorldOf, InEachWorld, CanLeave, Leaves}
 use Rattle.disk_model.specs.Moments.{AddsOnly}
 use Rattle.disk_model.specs.Causes.{Rose}
-use Rattle.disk_model.proofs.Laws.{only_one}
+use Rattle.disk_model.proofs.Laws.{only_one, some_world}
+use Rattle.std.proofs.lemmas.Bool.{false≢true}
+use Rattle.pool_open.specs.Remaining.{Remains}
 use Rattle.map_model.specs.Cells.{Replica, Cell, Cells, absent, final, waiting}
 use Rattle.map_model.specs.Copies.{BlockFiles, block_files}
 use Rattle.map_model.specs.Allows.{Allows, AllowsImage}
@@ -23,18 +25,20 @@ use Rattle.pool_open.specs.declared.opening.OpenFault.{OpenFault}
 use Rattle.pool_open.specs.Outcome.{HoldsImage, HasTwoMetas, HasSoundFiles, ReadsAsOne, IsOpened, Opens, fault_disks}
 use Rattle.dn_play.specs.declared.ending.Ending.{Ending}
 use Rattle.dn_play.specs.declared.ending.Ending.TheVariants.{OpenFault as OpenFailed, Later}
-use Rattle.dn_play.specs.State.{RunState}
-use Rattle.dn_play.specs.Standing.{Standing, OpenWriter, NotGrowing, mark_of}
+use Rattle.dn_play.specs.State.{Numbers, RunState}
+use Rattle.dn_play.specs.Standing.{Standing, OpenWriter, NotGrowing, LeavesAllowed, mark_of}
 use Rattle.dn_play.specs.Session.{WritesReplies}
 use Rattle.dn_play.specs.Answer.{Played, IsOfLines}
 use Rattle.dn_play.specs.Play.{Course, IsBeforeOpened, RunsPool}
 use Rattle.dn_play.proofs.Progress.{known_on}
-use Rattle.dn_play.proofs.Crashes.{leaves_allowed, leaves_sound}
-use Rattle.dn_play.proofs.Whole.{leaves_whole}
 
--- the state that an opening begins with
+-- the state that an opening leaves
+abbrev pub opened_of : Cells → (ℕ → Numbers) → RunState
+opened_of cells numbers = record { cells = cells; writers = numbers }
+
+-- the state that a run begins with
 abbrev pub first_of : Cells → RunState
-first_of cells = record { cells = cells; writers = λ id. record { first = 0; last = 0 } }
+first_of cells = opened_of cells (λ id. record { first = 0; last = 0 })
 
 not_growing : (cell : Cell) → IsOpened cell → NotGrowing cell
 not_growing cell (inl is) = subst NotGrowing (sym is) tt
@@ -42,13 +46,18 @@ not_growing cell (inr (inl is)) = subst NotGrowing (sym is.1) tt
 not_growing cell (inr (inr is)) = subst NotGrowing (sym is) tt
 
 -- a session without writers stands for the cells that the opening made
-pub stands_first : {before told : Option (List World)} {volumes : ℕ} {entries : ℕ → Option Entry} {found : ℕ → List Leftover} {past since : ℕ → Files → Type 0} (writers : ℕ → Option Writer) →
-    (opens : Opens before told volumes entries found past since) → ((id : ℕ) → writers id ≡ None) → Standing told volumes entries found writers (first_of opens.cells)
-stands_first {before} {told} {volumes} {entries} {found} writers opens none = record {
+pub stands_opened : {before told : Option (List World)} {volumes : ℕ} {entries : ℕ → Option Entry} {found : ℕ → List Leftover} {past since : ℕ → Files → Type 0} (writers : ℕ → Option Writer) →
+    (opens : Opens before told volumes entries found past since) → (numbers : ℕ → Numbers) → ((id : ℕ) → writers id ≡ None) → Standing told volumes entries found writers (opened_of opens.cells numbers)
+stands_opened {before} {told} {volumes} {entries} {found} writers opens numbers none = record {
   pool = opens.stands false (λ no. absurd cc);
-  writer = λ id valid. subst (λ w. MatchOption w (NotGrowing (opens.cells id)) (OpenWriter told entries id (opens.cells id) (record { first = 0; last = 0 }))) (sym (none id))
+  writer = λ id valid. subst (λ w. MatchOption w (NotGrowing (opens.cells id)) (OpenWriter told entries id (opens.cells id) (numbers id))) (sym (none id))
       (not_growing (opens.cells id) (opens.opened id valid));
 }
+
+-- and so for those that a run begins with
+pub stands_first : {before told : Option (List World)} {volumes : ℕ} {entries : ℕ → Option Entry} {found : ℕ → List Leftover} {past since : ℕ → Files → Type 0} (writers : ℕ → Option Writer) →
+    (opens : Opens before told volumes entries found past since) → ((id : ℕ) → writers id ≡ None) → Standing told volumes entries found writers (first_of opens.cells)
+stands_first writers opens none = stands_opened writers opens (λ id. record { first = 0; last = 0 }) none
 
 -- the only world of a fresh disk
 abbrev fresh : Files → World
@@ -63,6 +72,17 @@ pub only_start : (told : Option (List World)) (start image : Files) → HoldsIma
 only_start told start image holds leaves =
     let world = only_fresh told start holds leaves.0 leaves.1 in
     fun_ext (λ vol. fun_ext (λ path. (subst (λ (w : World). Rattle.disk_model.specs.Told.Leaves w image) (sym world) leaves.2).settled vol path refl))
+
+tells : (told : Option (List World)) (start : Files) → HoldsImage told start → IsSome told
+tells told start holds = subst IsSome (sym holds) refl
+
+-- disks that remain as they were can still leave the image that they held
+pub left_start : (before after : Option (List World)) (start : Files) → HoldsImage before start → Remains before after → (after ≡ Some [] → ⊥) → (IsSome before → IsSome after) →
+    (CanLeave after start → HasTwoMetas start) → HasTwoMetas start
+left_start before after start holds remains some honest has =
+    let was = some_world after some (honest (tells before start holds)) in
+    let world : fresh start ≡ was.0 = only_fresh before start holds was.0 (remains was.0 was.1) in
+    has (was.0, was.1, subst (λ (w : World). Leaves w start) world (record { drafts = λ vol path there. absurd (false≢true there); settled = λ vol path none. refl }))
 
 -- what reads as the start, the first cells allow
 kind_allows : (files : BlockFiles) (cell : Cell) (replica : Option Replica) → IsOpened cell → MatchOption replica (WaitsExactly files cell) (λ r. cell ≡ final r) → Allows cell replica
@@ -87,9 +107,6 @@ shown_start told start world holds is P has = subst (λ (w : World). P (shown_fi
 sound_start : (told : Option (List World)) (start : Files) → HoldsImage told start → IsSound start → InEachWorld told HasSoundFiles
 sound_start told start holds sound world is = subst HasSoundFiles (only_fresh told start holds world is) sound
 
-tells : (told : Option (List World)) (start : Files) → HoldsImage told start → IsSome told
-tells told start holds = subst IsSome (sym holds) refl
-
 module _ {D : Type 0} (worlds : D → Option (List World)) (faults next_number moment volume_count : D → ℕ) (left_since : D → ℕ → Files → Type 0) (Faulty : ℕ → ℕ → Type 0)
     (before : D) (only_now : (image : Files) → left_since before (moment before) image → CanLeave (worlds before) image) where
   abbrev course_between : D → Option (List ℕ) → Course
@@ -100,7 +117,7 @@ module _ {D : Type 0} (worlds : D → Option (List World)) (faults next_number m
       (image : Files) → left_since after (moment before) image → ReadsAlike (block_files start) image
   reads_start after start holds adds image s = elim (adds (moment before) image s) [
     | inl earlier ↦ alike_start start image (only_start (worlds before) start image holds (only_now image earlier))
-    | inr reads ↦ shown_start (worlds before) start reads.0 holds reads.1 (λ files. ReadsAlike files image) reads.2
+    | inr reads ↦ shown_start (worlds before) start reads.0 holds reads.1 (λ files. ReadsAlike files image) reads.2.alike
   ]
 
   -- nothing was carried out
@@ -126,15 +143,16 @@ module _ {D : Type 0} (worlds : D → Option (List World)) (faults next_number m
       })
 
   -- the lines were carried out
-  pub runs_so : (mid after out : D) {volumes volumes' : ℕ} {entries entries' : ℕ → Option Entry} {found found' : ℕ → List Leftover} {writers : ℕ → Option Writer} {SoundNow : Cells → Type 0}
+  pub runs_so : (mid after out : D) {volumes : ℕ} {entries : ℕ → Option Entry} {found : ℕ → List Leftover} {SoundNow : Cells → Type 0}
       (input taken taken' : Option (List ℕ)) (ending : Ending) → out ≡ after → GoesOn worlds faults next_number moment volume_count before mid →
       (opens : Opens (worlds before) (worlds mid) volumes entries found (left_since before) (left_since mid)) →
       ((image : Files) → left_since mid (moment mid) image → CanLeave (worlds mid) image) →
       Played Faulty (worlds mid) (first_of opens.cells) (mark_of faults next_number moment mid) (mark_of faults next_number moment after) input taken taken' ending
-      (Standing (worlds after) volumes' entries' found' writers) (PoolStands (worlds mid) volumes entries found true) SoundNow (left_since mid) (left_since after) → IsOfLines ending →
-      ((image : Files) → HoldsImage (worlds before) image → HasTwoMetas image → ⊥) →
+      (LeavesAllowed (worlds after)) (PoolStands (worlds mid) volumes entries found true) SoundNow (left_since mid) (left_since after) → IsOfLines ending →
+      ((image : Files) → HoldsImage (worlds before) image → HasTwoMetas image → ⊥) → AddsOnly (left_since before) (left_since mid) (ReadsAsOne (worlds before)) →
+      (ending ≡ Later 0 → (image : Files) → CanLeave (worlds after) image → HasTwoMetas image) →
       RunsPool Faulty (left_since out) (CanLeave (worlds out)) (course_between out input) taken taken' ending
-  runs_so mid after out {volumes} {volumes'} {entries} {entries'} {found} {found'} {writers} {SoundNow} input taken taken' ending is went opens only_mid p of_lines one_meta =
+  runs_so mid after out {volumes} {entries} {found} {SoundNow} input taken taken' ending is went opens only_mid p of_lines one_meta meanwhile later =
       let made : (start : Files) → HoldsImage (worlds before) start → MakesCells (block_files start) opens.cells = λ start holds.
       let shows = opens.shown (tells (worlds before) start holds) in
       shown_start (worlds before) start shows.world holds shows.is (λ files. MakesCells files opens.cells) shows.made in
@@ -164,13 +182,21 @@ module _ {D : Type 0} (worlds : D → Option (List World)) (faults next_number m
             | inr allows ↦ allows
           ];
           images_each = p.crash.each;
-          images_at_exit = λ image leaves. leaves_allowed p.stands.pool image leaves;
-          whole_at_exit = λ image leaves. leaves_whole p.stands.pool image leaves;
+          images_at_exit = λ image leaves. (p.stands image leaves).0;
+          whole_at_exit = λ image leaves. (p.stands image leaves).1;
+          whole = λ image s. elim (p.crash.whole (moment mid) image s) [
+            | inl earlier ↦ opens.whole image (only_mid image earlier)
+            | inr is_whole ↦ is_whole
+          ];
+          later = later;
           sound = λ start holds sound image s.
-              let stands = opens.stands true (λ yes. sound_start (worlds before) start holds sound) in
-              elim (p.crash.sound_images stands (moment mid) image s) [
-                | inl earlier ↦ leaves_sound stands image (only_mid image earlier)
+              let worlds_are = sound_start (worlds before) start holds sound in
+              elim (p.crash.sound_images (opens.stands true (λ yes. worlds_are)) (moment before) image s) [
                 | inr is_sound ↦ is_sound
+                | inl opening ↦ elim (meanwhile (moment before) image opening) [
+                  | inl earlier ↦ subst IsSound (sym (only_start (worlds before) start image holds (only_now image earlier))) sound
+                  | inr reads ↦ reads.2.sound (worlds_are reads.0 reads.1)
+                ]
               ];
         });
         written = p.written;

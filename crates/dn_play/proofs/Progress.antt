@@ -1,5 +1,5 @@
 -- How far a session has come, and how a line takes it on.
-use Rattle.std.proofs.Common.{◌≡◌, ℕ, ◌+◌, ◌≤◌, suc, List, [], ◌∷◌, ◌++◌, length, take, refl, ap, sym, ◌∙◌, subst, arith, Option, Some, None, IfSome, IsSome}
+use Rattle.std.proofs.Common.{◌≡◌, ℕ, zero, ◌+◌, ◌≤◌, suc, List, [], ◌∷◌, ◌++◌, length, take, refl, ap, sym, ◌∙◌, subst, arith, Option, Some, None, IfSome, IsSome}
 use Rattle.std.proofs.lemmas.List.{append-nil, append_assoc}
 use Rattle.std.specs.Io.KnownBytes.{Appends}
 use Rattle.disk_model.specs.Worlds.{World}
@@ -9,23 +9,25 @@ use Rattle.line_io.specs.Lines.{terminated_lines, TakesLine, FirstPassesLimit, O
 use Rattle.line_io.specs.declared.lines.ReadFault.{ReadFault}
 use Rattle.line_io.specs.declared.lines.ReadFault.TheVariants.{Source, Limit as LineLimit, Memory}
 use Rattle.script_lang.specs.declared.Line.{Line}
+use Rattle.script_lang.specs.declared.Line.TheVariants.{Reopen}
 use Rattle.script_lang.specs.declared.reply.Reply.{Reply}
 use Rattle.script_lang.specs.Reply.{reply_line}
 use Rattle.script_lang.specs.Script.{line_of}
 use Rattle.dn_play.specs.declared.ending.Ending.{Ending}
 use Rattle.dn_play.specs.declared.ending.Ending.TheVariants.{Complete, Usage, SourceFault, SinkFault, NoMemory, Outside, OpenFault, Limit, Later}
-use Rattle.dn_play.specs.State.{RunState, Mark, Turn, turn_lines, turn_replies, last_state, last_mark}
+use Rattle.dn_play.specs.State.{RunState, Mark, IsLater, Turn, turn_lines, turn_replies, last_state, last_mark}
 use Rattle.dn_play.specs.Commands.{Trust, any_disks, telling_disks}
 use Rattle.dn_play.specs.Lines.{Follows}
 use Rattle.dn_play.specs.Standing.{IsKnown}
 use Rattle.dn_play.specs.Script.{Script, AtEnd, AtOutside, AtLimit, AtLater, stops, script_after, script_from, script_of, prepend, printed_column}
 use Rattle.dn_play.specs.Session.{Shows, WritesReplies, text_of, Reads, FirstCommands, AllCommands}
-use Rattle.dn_play.specs.Answer.{Answered, Unanswered, FirstOfLine, SaysUpTo, Played, IsOfLines, ending_at}
+use Rattle.dn_play.specs.Answer.{Answered, Unanswered, FirstOfLine, SaysUpTo, SaysReopen, EndsAt, Played, IsOfLines, ending_at}
 use Rattle.disk_model.specs.Files.{Files}
 use Rattle.map_model.specs.Cells.{Cells}
 use Rattle.dn_play.specs.Images.{AllowedSince, LinesCrashSafe}
 use Rattle.dn_play.proofs.Crashes.{crash_on}
-use Rattle.dn_play.proofs.Answering.{appends_nothing, no_lines}
+use Rattle.dn_play.specs.Standing.{AnyCells}
+use Rattle.dn_play.proofs.Answering.{appends_nothing, no_lines, lines_less, mark_stays}
 
 -- the lines so far, what is written, and that these lines and the script of what is unread are the whole script
 pub record Progress (Faulty : ℕ → ℕ → Type 0) (told : Option (List World)) (state : RunState) (before now : Mark) (input left : Option (List ℕ)) (pending : List ℕ) (number count : ℕ)
@@ -151,6 +153,11 @@ not_complete Source line ending e h = cc
 not_complete LineLimit line ending e h = cc
 not_complete Memory line ending e h = cc
 
+pub not_later : (fault : ReadFault) (line : ℕ) (ending : Ending) → ending ≡ ending_at fault line → ending ≡ Later 0 → ⊥
+not_later Source line ending e h = cc
+not_later LineLimit line ending e h = cc
+not_later Memory line ending e h = cc
+
 pub not_sink : (fault : ReadFault) (line : ℕ) (ending : Ending) → ending ≡ ending_at fault line → ending ≡ SinkFault → ⊥
 not_sink Source line ending e h = cc
 not_sink LineLimit line ending e h = cc
@@ -174,13 +181,22 @@ first_on input left left' pending pending' number count count' text commands oth
     (λ u m r e k. let f = says (script_from (number + 1) count' (terminated_lines r)) in
     (f.0, ap (λ s. s.commands) (e ∙ ap (prepend commands) (script_by_line number count count' m text r k)) ∙ ap (λ c. commands ++ c) f.1 ∙ sym (append_assoc commands others f.0)))
 
+-- the next line asks for an opening again
+reopen_on : (input left left' : Option (List ℕ)) (pending pending' : List ℕ) (number count count' : ℕ) (text : List ℕ) (commands others : List Line) →
+    OfUnread (λ unread rest. script_of unread ≡ prepend commands (script_from number count (terminated_lines rest))) [] input pending left → OfUnread (λ unread rest. TakesLine count unread text count' rest) pending left pending' left' →
+    SaysReopen text others → IfSome input (λ bytes. FirstCommands bytes ((commands ++ others) ++ Reopen ∷ []))
+reopen_on input left left' pending pending' number count count' text commands others h t says =
+    subst (λ (c : List Line). IfSome input (λ bytes. FirstCommands bytes (c ++ Reopen ∷ []))) (sym (ap (λ (o : List Line). commands ++ o) says.0 ∙ append-nil commands))
+    (first_on input left left' pending pending' number count count' text commands (Reopen ∷ []) h t
+    (λ rest. (rest.commands, ap (λ l. (script_after (number + 1) l rest).commands) says.1)))
+
 reads_on : (input left left' : Option (List ℕ)) (pending pending' : List ℕ) (number count count' : ℕ) (text : List ℕ) (commands others : List Line) (ending : Ending) →
     OfUnread (λ unread rest. script_of unread ≡ prepend commands (script_from number count (terminated_lines rest))) [] input pending left → OfUnread (λ unread rest. TakesLine count unread text count' rest) pending left pending' left' →
     SaysUpTo (number + 1) text others ending → IfSome input (λ bytes. Reads bytes (commands ++ others) ending)
 reads_on input left left' pending pending' number count count' text commands others Complete h t says = absurd says
 reads_on input left left' pending pending' number count count' text commands others Usage h t says = absurd says
 reads_on input left left' pending pending' number count count' text commands others SourceFault h t says = absurd says
-reads_on input left left' pending pending' number count count' text commands others OpenFault h t says = absurd says
+reads_on input left left' pending pending' number count count' text commands others OpenFault h t says = reopen_on input left left' pending pending' number count count' text commands others h t says
 reads_on input left left' pending pending' number count count' text commands others (Limit line) h t says = absurd says
 reads_on input left left' pending pending' number count count' text commands others SinkFault h t says = first_on input left left' pending pending' number count count' text commands others h t says
 reads_on input left left' pending pending' number count count' text commands others NoMemory h t says = first_on input left left' pending pending' number count count' text commands others h t says
@@ -190,8 +206,9 @@ reads_on input left left' pending pending' number count count' text commands oth
     ∙ ap (λ (c : List Line). record { commands = commands ++ c; stop = AtOutside (number + 1) (printed_column says.2.0) }) (sym says.0)
     ∙ ap (λ (n : ℕ). record { commands = commands ++ others; stop = AtOutside n (printed_column says.2.0) }) (sym says.1)
     ∙ ap (λ (n : ℕ). record { commands = commands ++ others; stop = AtOutside line n }) (sym says.2.1))
-reads_on input left left' pending pending' number count count' text commands others (Later line) h t says =
-    unread_both (λ unread rest. script_of unread ≡ prepend commands (script_from number count (terminated_lines rest))) (λ unread rest. TakesLine count unread text count' rest) (λ bytes. AllCommands bytes (commands ++ others) (AtLater line)) pending pending' input left left' h t
+reads_on input left left' pending pending' number count count' text commands others (Later zero) h t says = reopen_on input left left' pending pending' number count count' text commands others h t says
+reads_on input left left' pending pending' number count count' text commands others (Later (suc line)) h t says =
+    unread_both (λ unread rest. script_of unread ≡ prepend commands (script_from number count (terminated_lines rest))) (λ unread rest. TakesLine count unread text count' rest) (λ bytes. AllCommands bytes (commands ++ others) (AtLater (suc line))) pending pending' input left left' h t
     (λ u m r e k. e ∙ ap (prepend commands) (script_by_line number count count' m text r k ∙ ap (λ l. script_after (number + 1) l (script_from (number + 1) count' (terminated_lines r))) says.2)
     ∙ ap (λ (c : List Line). record { commands = commands ++ c; stop = AtLater (number + 1) }) (sym says.0)
     ∙ ap (λ (n : ℕ). record { commands = commands ++ others; stop = AtLater n }) (sym says.1))
@@ -266,7 +283,7 @@ module _ {Faulty : ℕ → ℕ → Type 0} {told : Option (List World)} {state :
     shown = [];
     follows = λ trust known. tt;
     stands = stands;
-    at_mark = refl;
+    at_mark = mark_stays before;
     crash = no_lines from_now;
     read = nothing_so_far input;
     shows = ([], refl, omega arith);
@@ -323,7 +340,7 @@ module _ {Faulty : ℕ → ℕ → Type 0} {told : Option (List World)} {state :
       shown = turn_replies p.turns;
       follows = p.follows;
       stands = p.stands;
-      at_mark = p.at_mark;
+      at_mark = subst (λ m. IsLater (last_mark before p.turns) m) p.at_mark (mark_stays (last_mark before p.turns));
       crash = p.crash;
       read = first_so_far input left pending number count (turn_lines p.turns) p.read;
       shows = ([], sym (append-nil (turn_replies p.turns)), omega arith);
@@ -365,10 +382,26 @@ module _ {Faulty : ℕ → ℕ → Type 0} {told : Option (List World)} {state :
         shown = turn_replies p.turns ++ u.shown;
         follows = all_follow Faulty told told_now state before now honest p.turns u.turns p.at_mark p.follows u.follows;
         stands = subst StandsThen (sym (last_state-append state p.turns u.turns)) u.stands;
-        at_mark = marks_on u.turns u.at_mark;
+        at_mark = subst (λ m. EndsAt ending m after) (sym (last_mark-append before p.turns u.turns ∙ ap (λ m. last_mark m u.turns) p.at_mark)) u.at_mark;
         crash = crash_on p.at_mark p.crash u.crash;
         read = subst (λ c. IfSome input (λ bytes. Reads bytes c ending)) (sym (turn_lines-append p.turns u.turns))
             (reads_on input left left' pending pending' number count count' text (turn_lines p.turns) (turn_lines u.turns) ending p.read t (subst (λ s. SaysUpTo (number + 1) s (turn_lines u.turns) ending) same_text u.says));
         shows = subst (λ r. Shows r ending (turn_replies p.turns ++ u.shown)) (sym (turn_replies-append p.turns u.turns)) (shows_on (turn_replies p.turns) (turn_replies u.turns) u.shown ending u.shows);
         written = writes_on taken taken' taken'' (turn_replies p.turns) u.shown ending p.written u.written;
       }
+
+-- less is said of where the session stands then
+pub played_less : {Faulty : ℕ → ℕ → Type 0} {told : Option (List World)} {state : RunState} {before after : Mark} {input taken taken' : Option (List ℕ)} {ending : Ending}
+    {StandsFor Less : RunState → Type 0} {Sound SoundNow : Cells → Type 0} {past since : ℕ → Files → Type 0} → Played Faulty told state before after input taken taken' ending StandsFor Sound SoundNow past since →
+    ((s : RunState) → StandsFor s → Less s) → Played Faulty told state before after input taken taken' ending Less Sound AnyCells past since
+played_less {state = state} p weaken = record {
+  turns = p.turns;
+  shown = p.shown;
+  follows = p.follows;
+  stands = weaken (last_state state p.turns) p.stands;
+  at_mark = p.at_mark;
+  crash = lines_less p.crash;
+  read = p.read;
+  shows = p.shows;
+  written = p.written;
+}

@@ -202,7 +202,7 @@ at_block_steps {id} {other} {command} {answer} {SaysOf} {cells} {Stood} {StandsF
 -- what a crash can leave: of a tenure that takes a step, of a quiet one, and of none
 pub crash_takes : {id : ℕ} {command : Command} {answer : Answer} {SaysOf : Cell → Type 0} {cells : Cells} {Stood StandsFor : Bool → Cells → Type 0} {past since : ℕ → Files → Type 0} →
     (step : TakesStep id command answer SaysOf cells Stood StandsFor past since) → CrashSafe cells (with_cell cells id step.to.cell) (Stood true) (StandsFor true) past since
-crash_takes step = record { images = step.images; sound = step.to.stands true; sound_images = step.sound_images }
+crash_takes step = record { images = step.images; sound = step.to.stands true; sound_images = step.sound_images; whole = step.whole_images }
 
 pub crash_rests : {cells : Cells} {Stood StandsFor : Bool → Cells → Type 0} {past since : ℕ → Files → Type 0} → IsQuiet cells Stood StandsFor past since →
     CrashSafe cells cells (Stood true) (StandsFor true) past since
@@ -210,13 +210,14 @@ crash_rests quiet = record {
   images = λ t image s. elim (quiet.images t image s) [ inl earlier ↦ inl earlier | inr allows ↦ inr (inl allows) ];
   sound = quiet.stands true;
   sound_images = quiet.sound_images;
+  whole = quiet.whole_images;
 }
 
 pub crash_same : (cells : Cells) (Sound : Cells → Type 0) (past : ℕ → Files → Type 0) → CrashSafe cells cells Sound Sound past past
-crash_same cells Sound past = record { images = λ t image s. inl s; sound = λ sound. sound; sound_images = λ sound t image s. inl s }
+crash_same cells Sound past = record { images = λ t image s. inl s; sound = λ sound. sound; sound_images = λ sound t image s. inl s; whole = λ t image s. inl s }
 
 pub crash_only : {cells after : Cells} {Sound SoundNow : Cells → Type 0} {past : ℕ → Files → Type 0} → (Sound cells → SoundNow after) → CrashSafe cells after Sound SoundNow past past
-crash_only sound = record { images = λ t image s. inl s; sound = sound; sound_images = λ was t image s. inl s }
+crash_only sound = record { images = λ t image s. inl s; sound = sound; sound_images = λ was t image s. inl s; whole = λ t image s. inl s }
 
 module _ {Faulty : ℕ → ℕ → Type 0} {told : Option (List World)} {old : RunState} {before after : Mark} {id : ℕ} {command : Command} {reply : Reply} {StandsFor : RunState → Type 0}
     {Sound SoundNow : Cells → Type 0} {past since : ℕ → Files → Type 0} where

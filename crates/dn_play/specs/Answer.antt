@@ -1,16 +1,20 @@
 -- What the answer to one line does, and what the lines of a session do.
-use Rattle.std.specs.Prelude.{◌≡◌, ◌≢◌, ◌⊎◌, ℕ, ◌++◌, List, [], Option, Err, IfSome, ⊤, zero, suc}
+use Rattle.std.specs.Prelude.{◌≡◌, ◌≢◌, ◌⊎◌, ℕ, ◌++◌, List, [], Option, Ok, Err, IfSome, ⊤, zero, suc}
 use Rattle.std.specs.Io.KnownBytes.{Appends}
 use Rattle.disk_model.specs.Worlds.{World}
+use Rattle.disk_model.specs.Causes.{Rose}
 use Rattle.line_io.specs.declared.lines.ReadFault.{ReadFault}
 use Rattle.line_io.specs.declared.lines.ReadFault.TheVariants.{Source, Limit as LineLimit, Memory}
+use Rattle.pool_open.specs.declared.opening.ReopenFault.{ReopenFault}
+use Rattle.pool_open.specs.declared.opening.ReopenFault.TheVariants.{Failed, Memory as NoRoom, Later as TwoMetas}
 use Rattle.script_lang.specs.declared.LineFault.TheVariants.{Bad, Later as NotYet}
 use Rattle.script_lang.specs.declared.Line.{Line}
+use Rattle.script_lang.specs.declared.Line.TheVariants.{Reopen}
 use Rattle.script_lang.specs.declared.reply.Reply.{Reply}
 use Rattle.script_lang.specs.Script.{line_of}
 use Rattle.dn_play.specs.declared.ending.Ending.{Ending}
 use Rattle.dn_play.specs.declared.ending.Ending.TheVariants.{Complete, Usage, SourceFault, SinkFault, NoMemory, Outside, OpenFault, Limit, Later}
-use Rattle.dn_play.specs.State.{RunState, Mark, Turn, turn_lines, turn_replies, last_state, last_mark}
+use Rattle.dn_play.specs.State.{RunState, Mark, IsLater, Turn, turn_lines, turn_replies, last_state, last_mark}
 use Rattle.dn_play.specs.Commands.{Trust}
 use Rattle.dn_play.specs.Lines.{Follows}
 use Rattle.dn_play.specs.Images.{LinesCrashSafe}
@@ -35,6 +39,30 @@ pub record Answered (Faulty : ℕ → ℕ → Type 0) (told : Option (List World
 abbrev pub FirstOfLine : ℕ → List ℕ → List Line → Type 0
 FirstOfLine number text commands = (rest : Script) → (others : List Line) × ((script_after number (line_of text) rest).commands ≡ commands ++ others)
 
+-- How the counts at the end follow those after the last line that was answered: they are the same, but where an opening again
+-- was begun and not done.
+abbrev pub EndsAt : Ending → Mark → Mark → Type 0
+EndsAt Complete last end = last ≡ end
+EndsAt Usage last end = last ≡ end
+EndsAt SourceFault last end = last ≡ end
+EndsAt SinkFault last end = last ≡ end
+EndsAt NoMemory last end = IsLater last end
+EndsAt (Outside line column) last end = last ≡ end
+EndsAt OpenFault last end = IsLater last end × Rose last.faults end.faults
+EndsAt (Limit line) last end = last ≡ end
+EndsAt (Later zero) last end = IsLater last end
+EndsAt (Later (suc line)) last end = last ≡ end
+
+-- the line asks for the pool to be opened again
+abbrev pub SaysReopen : List ℕ → List Line → Type 0
+SaysReopen text commands = (commands ≡ []) × (line_of text ≡ Ok Reopen)
+
+-- how a session ends whose pool was not opened again
+abbrev pub reopen_ending : ReopenFault → Ending
+reopen_ending Failed = OpenFault
+reopen_ending NoRoom = NoMemory
+reopen_ending TwoMetas = Later 0
+
 -- what a line says that was not answered
 abbrev pub SaysUpTo : ℕ → List ℕ → List Line → Ending → Type 0
 SaysUpTo number text commands Complete = ⊥
@@ -43,9 +71,10 @@ SaysUpTo number text commands SourceFault = ⊥
 SaysUpTo number text commands SinkFault = FirstOfLine number text commands
 SaysUpTo number text commands NoMemory = FirstOfLine number text commands
 SaysUpTo number text commands (Outside line column) = (commands ≡ []) × (line ≡ number) × ((word : ℕ) × (column ≡ printed_column word) × (line_of text ≡ Err (Bad word)))
-SaysUpTo number text commands OpenFault = ⊥
+SaysUpTo number text commands OpenFault = SaysReopen text commands
 SaysUpTo number text commands (Limit line) = ⊥
-SaysUpTo number text commands (Later line) = (commands ≡ []) × (line ≡ number) × (line_of text ≡ Err NotYet)
+SaysUpTo number text commands (Later zero) = SaysReopen text commands
+SaysUpTo number text commands (Later (suc line)) = (commands ≡ []) × (suc line ≡ number) × (line_of text ≡ Err NotYet)
 
 -- the line was not answered, or not wholly
 pub record Unanswered (Faulty : ℕ → ℕ → Type 0) (told : Option (List World)) (state : RunState) (before after : Mark) (taken taken' : Option (List ℕ)) (number : ℕ) (text : List ℕ)
@@ -55,7 +84,7 @@ pub record Unanswered (Faulty : ℕ → ℕ → Type 0) (told : Option (List Wor
   pub says : SaysUpTo number text (turn_lines turns) ending
   pub follows : (trust : Trust) → IsKnown trust told → Follows trust Faulty state before turns
   pub stands : StandsFor (last_state state turns)
-  pub at_mark : last_mark before turns ≡ after
+  pub at_mark : EndsAt ending (last_mark before turns) after
   pub crash : LinesCrashSafe before state turns Sound SoundNow past since
   pub shows : Shows (turn_replies turns) ending shown
   pub written : WritesReplies ending taken taken' (text_of shown)
@@ -73,7 +102,7 @@ pub record Played (Faulty : ℕ → ℕ → Type 0) (told : Option (List World))
   pub shown : List Reply
   pub follows : (trust : Trust) → IsKnown trust told → Follows trust Faulty state before turns
   pub stands : StandsFor (last_state state turns)
-  pub at_mark : last_mark before turns ≡ after
+  pub at_mark : EndsAt ending (last_mark before turns) after
   pub crash : LinesCrashSafe before state turns Sound SoundNow past since
   pub read : IfSome input (λ bytes. Reads bytes (turn_lines turns) ending)
   pub shows : Shows (turn_replies turns) ending shown
@@ -94,7 +123,6 @@ IsOfLines SourceFault = ⊤
 IsOfLines SinkFault = ⊤
 IsOfLines NoMemory = ⊤
 IsOfLines (Outside line column) = ⊤
-IsOfLines OpenFault = ⊥
+IsOfLines OpenFault = ⊤
 IsOfLines (Limit line) = ⊤
-IsOfLines (Later zero) = ⊥
-IsOfLines (Later (suc line)) = ⊤
+IsOfLines (Later line) = ⊤

@@ -4,6 +4,7 @@ use Rattle.disk_model.specs.Files.{Files}
 use Rattle.disk_model.specs.Moments.{AddsOnly}
 use Rattle.map_model.specs.Cells.{Cells}
 use Rattle.map_model.specs.Allows.{AllowsImage}
+use Rattle.map_model.specs.Copies.{OneWhole}
 use Rattle.map_model.specs.Sound.{IsSound}
 use Rattle.pool_state.specs.Answers.{AllowedByEither}
 use Rattle.dn_play.specs.State.{RunState, Mark, Turn, last_state}
@@ -24,12 +25,19 @@ AllowedSinceEach since mark state [] = AllowedSince since mark.moment state []
 AllowedSinceEach since mark state (turn ∷ turns) =
     AllowedSince since mark.moment state (turn ∷ turns) × AllowedSinceEach since turn.mark turn.state turns
 
--- What a crash can leave while one command is carried out: the cells before it or after it allow it. `Sound cells` says that
--- the pool stands for the cells with meta files that match.
+-- What a crash can leave while one line is carried out: the cells before it or after it allow it, and of each block one whole
+-- copy stands at most. `Sound cells` says that the pool stands for the cells with meta files that match.
 pub record CrashSafe (before after : Cells) (Sound SoundNow : Cells → Type 0) (past since : ℕ → Files → Type 0) : Type 0 where
   pub images : AddsOnly past since (AllowedByEither before after)
   pub sound : Sound before → SoundNow after
   pub sound_images : Sound before → AddsOnly past since IsSound
+  pub whole : AddsOnly past since OneWhole
+
+-- What a crash can leave while the pool is opened again, where that isn't done: the cells before it allow it.
+pub record StaysCrashSafe (before : Cells) (Sound : Cells → Type 0) (past since : ℕ → Files → Type 0) : Type 0 where
+  pub images : AddsOnly past since (AllowsImage before)
+  pub sound_images : Sound before → AddsOnly past since IsSound
+  pub whole : AddsOnly past since OneWhole
 
 -- What a crash can leave while lines are carried out.
 pub record LinesCrashSafe (before : Mark) (state : RunState) (turns : List Turn) (Sound SoundNow : Cells → Type 0) (past since : ℕ → Files → Type 0) : Type 0 where
@@ -37,3 +45,4 @@ pub record LinesCrashSafe (before : Mark) (state : RunState) (turns : List Turn)
   pub each : AllowedSinceEach since before state turns
   pub sound : Sound state.cells → SoundNow (last_state state turns).cells
   pub sound_images : Sound state.cells → AddsOnly past since IsSound
+  pub whole : AddsOnly past since OneWhole

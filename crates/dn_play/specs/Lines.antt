@@ -1,11 +1,27 @@
 -- One line of a script, and the lines of a run.
-use Rattle.std.specs.Prelude.{ℕ, List, [], ◌∷◌, ⊤}
+use Rattle.std.specs.Prelude.{ℕ, ◌≡◌, List, [], ◌∷◌, ⊤}
+use Rattle.volume_layout.specs.Paths.{IsBlockId}
 use Rattle.script_lang.specs.declared.Line.{Line}
-use Rattle.script_lang.specs.declared.Line.TheVariants.{Blank, Open, Push, Finish, Write, Read, Delete}
+use Rattle.script_lang.specs.declared.Line.TheVariants.{Blank, Open, Push, Finish, Write, Read, Delete, Reopen}
 use Rattle.script_lang.specs.declared.reply.Reply.{Reply}
-use Rattle.map_model.specs.Steps.{start_write, push, finish, write, read, delete}
+use Rattle.script_lang.specs.declared.reply.Reply.TheVariants.{Done}
+use Rattle.map_model.specs.Cells.{Cells}
+use Rattle.map_model.specs.Steps.{start_write, push, finish, write, read, delete, Reopened}
+use Rattle.pool_open.specs.Outcome.{IsOpened}
 use Rattle.dn_play.specs.State.{RunState, Mark, IsLater, Turn}
-use Rattle.dn_play.specs.Commands.{Trust, CommandStep}
+use Rattle.dn_play.specs.Commands.{Trust, any_disks, telling_disks, CommandStep}
+
+-- what closing the pool and opening it again leaves of its cells: no writer is open, and where the disks tell, each cell is as it
+-- was found
+abbrev pub CellsReopened : Trust → Cells → Cells → Type 0
+CellsReopened any_disks old new = (id : ℕ) → IsBlockId id → IsOpened (new id)
+CellsReopened telling_disks old new = (id : ℕ) → IsBlockId id → Reopened (old id) (new id)
+
+-- the line `reopen`
+pub record Reopens (trust : Trust) (old : RunState) (reply : Reply) (new : RunState) : Type 0 where
+  pub done : reply ≡ Done
+  pub cells : CellsReopened trust old.cells new.cells
+  pub writers : (id : ℕ) → new.writers id ≡ old.writers id
 
 -- what each line does
 abbrev pub Does : Trust → (ℕ → ℕ → Type 0) → RunState → Mark → Line → Reply → RunState → Mark → Type 0
@@ -15,6 +31,7 @@ Does trust Faulty old before (Finish id) reply new after = CommandStep trust Fau
 Does trust Faulty old before (Write id stamp bytes) reply new after = CommandStep trust Faulty old before id (write stamp bytes) reply new after
 Does trust Faulty old before (Read id) reply new after = CommandStep trust Faulty old before id read reply new after
 Does trust Faulty old before (Delete id) reply new after = CommandStep trust Faulty old before id delete reply new after
+Does trust Faulty old before Reopen reply new after = Reopens trust old reply new
 Does trust Faulty old before Blank reply new after = ⊥
 
 -- one line: from this state and these counts it gives this reply and goes on to that state and those counts

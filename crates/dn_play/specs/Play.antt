@@ -18,7 +18,7 @@ use Rattle.dn_play.specs.Lines.{Follows}
 use Rattle.dn_play.specs.Images.{AllowedSince, AllowedSinceEach}
 use Rattle.dn_play.specs.Standing.{IsKnown}
 use Rattle.dn_play.specs.Session.{Reads, Shows, Ends, WritesReplies, text_of}
-use Rattle.dn_play.specs.Answer.{IsOfLines}
+use Rattle.dn_play.specs.Answer.{IsOfLines, EndsAt}
 
 -- what a run is given and leaves: its disks' counts at the entry and at the exit, what they told at the entry, and its input
 pub record Course : Type 0 where
@@ -44,8 +44,9 @@ pub record StopsUnopened (since : ℕ → Files → Type 0) (course : Course) (e
 -- The opening was done. Then lines of the script were carried out, in order, whatever is known of the disks. Where the disks
 -- tell one image at the entry, the first cells are what an opening makes of it. The cells allow what a crash can leave: those
 -- after the last line what it can leave at the exit, and those after a line, or a later one, what it could leave since it. Of
--- each block that has a copy at the exit, one whole copy stands alone. Where the image at the entry is sound, so is each that a
--- crash could leave since the opening's end.
+-- each block that has a copy in an image that a crash could leave since the opening's end, one whole copy stands alone. Where the
+-- image at the entry is sound, so is each that a crash could leave since then. The run may end at an opening again that isn't
+-- done; where that is because two metas of a block stand, they stand in each image that can be left.
 pub record RunsLines (Faulty : ℕ → ℕ → Type 0) (since : ℕ → Files → Type 0) (can_leave : Files → Type 0) (course : Course) (ending : Ending) (shown : List Reply) : Type 0 where
   pub first : RunState
   pub mark : Mark
@@ -55,7 +56,7 @@ pub record RunsLines (Faulty : ℕ → ℕ → Type 0) (since : ℕ → Files �
   pub from_start : (start : Files) → HoldsImage course.told start → MakesCells (block_files start) first.cells
   pub counts : IsLater course.entry mark
   pub follows : (trust : Trust) → IsKnown trust course.told → Follows trust Faulty first mark turns
-  pub at_exit : last_mark mark turns ≡ course.exit
+  pub at_exit : EndsAt ending (last_mark mark turns) course.exit
   pub read : IfSome course.input (λ input. Reads input (turn_lines turns) ending)
   pub shows : Shows (turn_replies turns) ending shown
   pub of_lines : IsOfLines ending
@@ -63,7 +64,9 @@ pub record RunsLines (Faulty : ℕ → ℕ → Type 0) (since : ℕ → Files �
   pub images_each : AllowedSinceEach since mark first turns
   pub images_at_exit : (image : Files) → can_leave image → AllowsImage (last_state first turns).cells image
   pub whole_at_exit : (image : Files) → can_leave image → OneWhole image
-  pub sound : (start : Files) → HoldsImage course.told start → IsSound start → (image : Files) → since mark.moment image → IsSound image
+  pub whole : (image : Files) → since mark.moment image → OneWhole image
+  pub later : ending ≡ Later 0 → (image : Files) → can_leave image → HasTwoMetas image
+  pub sound : (start : Files) → HoldsImage course.told start → IsSound start → (image : Files) → since course.entry.moment image → IsSound image
 
 -- a run stops before the opening is done, or runs the lines
 abbrev pub Goes : (Faulty : ℕ → ℕ → Type 0) (since : ℕ → Files → Type 0) (can_leave : Files → Type 0) → Course → Ending → List Reply → Type 0

@@ -1,9 +1,10 @@
 -- How a session ends, what it reads and what it writes.
-use Rattle.std.specs.Prelude.{ℕ, ◌≡◌, ◌≤◌, ◌⊎◌, ◌==◌, MatchBool, List, [], ◌∷◌, ◌++◌, length, Option, codes}
+use Rattle.std.specs.Prelude.{ℕ, zero, suc, ◌≡◌, ◌≤◌, ◌⊎◌, ◌==◌, MatchBool, List, [], ◌∷◌, ◌++◌, length, Option, codes}
 use Rattle.std.specs.List.{flat_map}
 use Rattle.std.specs.Io.KnownBytes.{Appends}
 use Rattle.line_io.specs.Written.{AppendsFront}
 use Rattle.script_lang.specs.declared.Line.{Line}
+use Rattle.script_lang.specs.declared.Line.TheVariants.{Reopen}
 use Rattle.script_lang.specs.declared.reply.Reply.{Reply}
 use Rattle.script_lang.specs.Reply.{reply_line, and_number}
 use Rattle.dn_play.specs.declared.ending.Ending.{Ending}
@@ -53,7 +54,8 @@ FirstCommands bytes commands = (others : List Line) × ((script_of bytes).comman
 abbrev pub AllCommands : List ℕ → List Line → Stop → Type 0
 AllCommands bytes commands stop = script_of bytes ≡ record { commands = commands; stop = stop }
 
--- the commands that a session carries out where it ends so, its pool having been opened
+-- the commands that a session carries out where it ends so, its pool having been opened; where it ends at an opening again, its
+-- line is the next one
 abbrev pub Reads : List ℕ → List Line → Ending → Type 0
 Reads bytes commands Complete = AllCommands bytes commands AtEnd
 Reads bytes commands Usage = ⊥
@@ -61,9 +63,10 @@ Reads bytes commands SourceFault = FirstCommands bytes commands
 Reads bytes commands SinkFault = FirstCommands bytes commands
 Reads bytes commands NoMemory = FirstCommands bytes commands
 Reads bytes commands (Outside line column) = AllCommands bytes commands (AtOutside line column)
-Reads bytes commands OpenFault = ⊥
+Reads bytes commands OpenFault = FirstCommands bytes (commands ++ Reopen ∷ [])
 Reads bytes commands (Limit line) = AllCommands bytes commands (AtLimit line)
-Reads bytes commands (Later line) = AllCommands bytes commands (AtLater line)
+Reads bytes commands (Later zero) = FirstCommands bytes (commands ++ Reopen ∷ [])
+Reads bytes commands (Later (suc line)) = AllCommands bytes commands (AtLater (suc line))
 
 -- the replies that are written: where memory runs out, that to the last command may be missing
 abbrev pub Shows : List Reply → Ending → List Reply → Type 0

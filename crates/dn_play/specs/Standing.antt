@@ -5,6 +5,9 @@ use Rattle.disk_model.specs.Causes.{FaultyOne}
 use Rattle.indexmap.specs.IndexMap.{get}
 use Rattle.volume_layout.specs.Paths.{IsBlockId}
 use Rattle.disk_model.specs.Files.{Files}
+use Rattle.disk_model.specs.Told.{CanLeave}
+use Rattle.map_model.specs.Allows.{AllowsImage}
+use Rattle.map_model.specs.Copies.{OneWhole}
 use Rattle.map_model.specs.Stands.{Leftover}
 use Rattle.map_model.specs.Cells.{Cell, Cells, absent, final, growing, unsure, waiting}
 use Rattle.map_model.specs.Steps.{Command}
@@ -15,7 +18,7 @@ use Rattle.pool_state.specs.Stands.{PoolStands, Stands}
 use Rattle.pool_state.specs.Writers.{Writer, WriterStands, writer_of}
 use Rattle.script_lang.specs.declared.reply.Reply.{Reply}
 use Rattle.script_lang.specs.declared.Line.{Line}
-use Rattle.script_lang.specs.declared.Line.TheVariants.{Blank, Open, Push, Finish, Write, Read, Delete}
+use Rattle.script_lang.specs.declared.Line.TheVariants.{Blank, Open, Push, Finish, Write, Read, Delete, Reopen}
 use Rattle.dn_play.specs.declared.session.Session.{Session}
 use Rattle.dn_play.specs.State.{Numbers, RunState, Mark}
 use Rattle.dn_play.specs.Commands.{Trust, any_disks, telling_disks, CommandStep}
@@ -72,6 +75,14 @@ module _ {D S T R : Type 0} (worlds : D → Option (List World)) (volume_count :
   SessionStands session state =
       Standing (worlds session.pool.disks) (volume_count session.pool.disks) (entry_at session.pool.map) (found_at session.pool.map) (open_writer session) state
 
+-- what the disks can leave is allowed by the cells of this state, and has one whole copy of each block at most
+abbrev pub LeavesAllowed : Option (List World) → RunState → Type 0
+LeavesAllowed told state = (image : Files) → CanLeave told image → AllowsImage state.cells image × OneWhole image
+
+-- nothing is said of the cells
+abbrev pub AnyCells : Cells → Type 0
+AnyCells cells = ⊤
+
 -- A command was carried out: the session stands for another state, to which the command's step leads, whatever is known of the
 -- disks; and whatever a crash leaves meanwhile, the cells before or after allow.
 pub record CarriesOut (Faulty : ℕ → ℕ → Type 0) (told : Option (List World)) (old : RunState) (before : Mark) (id : ℕ) (command : Command) (reply : Reply) (after : Mark)
@@ -90,6 +101,18 @@ IsCommand (Finish id) = ⊤
 IsCommand (Write id stamp bytes) = ⊤
 IsCommand (Read id) = ⊤
 IsCommand (Delete id) = ⊤
+IsCommand Reopen = ⊤
+
+-- it asks for something on one block
+abbrev pub IsOnBlock : Line → Type 0
+IsOnBlock Blank = ⊥
+IsOnBlock (Open id stamp need) = ⊤
+IsOnBlock (Push id piece) = ⊤
+IsOnBlock (Finish id) = ⊤
+IsOnBlock (Write id stamp bytes) = ⊤
+IsOnBlock (Read id) = ⊤
+IsOnBlock (Delete id) = ⊤
+IsOnBlock Reopen = ⊥
 
 -- A line was carried out: the session stands for another state, to which the line leads, whatever is known of the disks.
 pub record LineCarried (Faulty : ℕ → ℕ → Type 0) (told : Option (List World)) (old : RunState) (before : Mark) (line : Line) (reply : Reply) (after : Mark)

@@ -1,21 +1,70 @@
 //! The answer to one line.
-ghost use Rattle.std.specs.Prelude.{◌≡◌, ◌≤◌, OnOk, IfErr, IsErrOf};
+ghost use Rattle.std.specs.Prelude.{◌≡◌, ◌≤◌, OnOk, OnErr, IfOk, IfErr, IsErr, IsErrOf};
 ghost use Rattle.disk_model.specs.Causes.{Rose};
+ghost use Rattle.disk_model.specs.Files.{Files};
+ghost use Rattle.disk_model.specs.Told.{CanLeave};
 ghost use Rattle.pool_state.specs.Stands.{GoesOn};
+ghost use Rattle.pool_open.specs.Outcome.{HasTwoMetas};
+ghost use Rattle.script_lang.specs.declared.Line.TheVariants.{Reopen};
 ghost use Rattle.dn_play.specs.State.{RunState};
-ghost use Rattle.dn_play.specs.Standing.{SessionStands, SoundFor, faulty_of, mark_of};
-ghost use Rattle.dn_play.specs.Answer.{Answered, Unanswered, IsOfLines};
+ghost use Rattle.dn_play.specs.Images.{StaysCrashSafe};
+ghost use Rattle.dn_play.specs.Standing.{SessionStands, SoundFor, LineCarried, IsCommand, LeavesAllowed, AnyCells, faulty_of, mark_of};
+ghost use Rattle.dn_play.specs.Answer.{Answered, Unanswered, IsOfLines, reopen_ending};
 
 use crate::ending::Ending;
 use crate::session::Session;
 use disk_model::{PoolDisks, Sink};
 use line_io::write_all;
-use script_lang::reply::write_reply;
+use pool_open::ReopenFault;
+use script_lang::reply::{Reply, write_reply};
 use script_lang::{Line, LineFault, read_line};
 use std::alloc::Global;
 
 /// The column that is printed for a line outside the language, until the whole language is read.
 const COLUMN: u64 = 1;
+
+/// How a session ends whose pool was not opened again.
+fn reopen_ending_of(fault: ReopenFault) -> Ending
+    ensures { result ≡ reopen_ending fault }
+{
+    match fault {
+        ReopenFault::Failed => Ending::OpenFault,
+        ReopenFault::Memory => Ending::NoMemory,
+        ReopenFault::Later => Ending::Later { line: 0 },
+    }
+}
+
+/// Carries out the command of a line. Only an opening again may fail, and then the session carries nothing out any more.
+fn carry_out<D: PoolDisks>(
+    alloc: Global,
+    session: &mut Session<D>,
+    line: Line,
+) -> Result<Reply, ReopenFault>
+    requires command { IsCommand line }
+    requires stands { (state : RunState) × SessionStands D.worlds D.volume_count D.Draft.place D.Draft.bytes session.old state }
+    requires one_volume { D.volume_count session.old.pool.disks ≡ 1 }
+    ensures ok { (state : RunState) → SessionStands D.worlds D.volume_count D.Draft.place D.Draft.bytes session.old state →
+        IfOk result (λ reply. LineCarried (faulty_of D.Draft.place D.Draft.faults D.Reader.number D.Reader.faults) (D.worlds session.old.pool.disks)
+        state (mark_of D.faults D.next_number D.moment session.old.pool.disks) line reply (mark_of D.faults D.next_number D.moment session.new.pool.disks)
+        (SessionStands D.worlds D.volume_count D.Draft.place D.Draft.bytes session.new)
+        (SoundFor D.worlds D.volume_count D.Draft.place D.Draft.bytes session.old) (SoundFor D.worlds D.volume_count D.Draft.place D.Draft.bytes session.new)
+        (D.left_since session.old.pool.disks) (D.left_since session.new.pool.disks)) }
+    ensures err { (state : RunState) → SessionStands D.worlds D.volume_count D.Draft.place D.Draft.bytes session.old state →
+        OnErr result (StaysCrashSafe state.cells (SoundFor D.worlds D.volume_count D.Draft.place D.Draft.bytes session.old)
+        (D.left_since session.old.pool.disks) (D.left_since session.new.pool.disks)) }
+    ensures reopens { IsErr result → line ≡ Reopen }
+    ensures failed { IsErrOf result ReopenFault.Failed → Rose (D.faults session.old.pool.disks) (D.faults session.new.pool.disks) }
+    ensures two_metas { IsErrOf result ReopenFault.Later → (image : Files) → CanLeave (D.worlds session.new.pool.disks) image → HasTwoMetas image }
+    ensures goes_on { GoesOn D.worlds D.faults D.next_number D.moment D.volume_count session.old.pool.disks session.new.pool.disks }
+{
+    match line {
+        Line::Reopen => {
+            session.reopen(alloc)?;
+            Ok(Reply::Done)
+        }
+        command => Ok(session.carry_out(alloc, command)),
+    }
+}
 
 /// Carries out the command of a line, and writes its reply.
 pub fn answer<D: PoolDisks, K: Sink>(
@@ -26,6 +75,7 @@ pub fn answer<D: PoolDisks, K: Sink>(
     text: &[u8],
 ) -> Result<(), Ending>
     requires stands { (state : RunState) × SessionStands D.worlds D.volume_count D.Draft.place D.Draft.bytes session.old state }
+    requires one_volume { D.volume_count session.old.pool.disks ≡ 1 }
     requires some_line { 1 ≤ number }
     ensures ok { (state : RunState) → SessionStands D.worlds D.volume_count D.Draft.place D.Draft.bytes session.old state →
         OnOk result (Answered (faulty_of D.Draft.place D.Draft.faults D.Reader.number D.Reader.faults) (D.worlds session.old.pool.disks)
@@ -36,10 +86,11 @@ pub fn answer<D: PoolDisks, K: Sink>(
     ensures err { (state : RunState) → SessionStands D.worlds D.volume_count D.Draft.place D.Draft.bytes session.old state →
         IfErr result (λ ending. Unanswered (faulty_of D.Draft.place D.Draft.faults D.Reader.number D.Reader.faults) (D.worlds session.old.pool.disks)
         state (mark_of D.faults D.next_number D.moment session.old.pool.disks) (mark_of D.faults D.next_number D.moment session.new.pool.disks)
-        (K.taken sink.old) (K.taken sink.new) number text.now ending (SessionStands D.worlds D.volume_count D.Draft.place D.Draft.bytes session.new)
-        (SoundFor D.worlds D.volume_count D.Draft.place D.Draft.bytes session.old) (SoundFor D.worlds D.volume_count D.Draft.place D.Draft.bytes session.new)
+        (K.taken sink.old) (K.taken sink.new) number text.now ending (LeavesAllowed (D.worlds session.new.pool.disks))
+        (SoundFor D.worlds D.volume_count D.Draft.place D.Draft.bytes session.old) AnyCells
         (D.left_since session.old.pool.disks) (D.left_since session.new.pool.disks)) }
     ensures of_lines { IfErr result IsOfLines }
+    ensures two_metas { IsErrOf result (Ending.Later 0) → (image : Files) → CanLeave (D.worlds session.new.pool.disks) image → HasTwoMetas image }
     ensures goes_on { GoesOn D.worlds D.faults D.next_number D.moment D.volume_count session.old.pool.disks session.new.pool.disks }
     ensures sink { IsErrOf result Ending.SinkFault → Rose (K.faults sink.old) (K.faults sink.new) }
     ensures later { K.faults sink.old ≤ K.faults sink.new }
@@ -57,7 +108,10 @@ pub fn answer<D: PoolDisks, K: Sink>(
         Line::Blank => return Ok(()),
         command => command,
     };
-    let reply = session.carry_out(alloc, command);
+    let reply = match carry_out(alloc, session, command) {
+        Ok(reply) => reply,
+        Err(fault) => return Err(reopen_ending_of(fault)),
+    };
     let Ok(shown) = write_reply(alloc, &reply) else {
         return Err(Ending::NoMemory);
     };

@@ -5,7 +5,7 @@ ghost use Rattle.volume_layout.specs.Paths.{IsBlockId};
 ghost use Rattle.map_model.specs.Steps.{start_write, push, finish, read, delete};
 ghost use Rattle.pool_state.specs.Stands.{GoesOn};
 ghost use Rattle.dn_play.specs.State.{RunState};
-ghost use Rattle.dn_play.specs.Standing.{SessionStands, SoundFor, CarriesOut, LineCarried, IsCommand, faulty_of, mark_of};
+ghost use Rattle.dn_play.specs.Standing.{SessionStands, SoundFor, CarriesOut, LineCarried, IsOnBlock, faulty_of, mark_of};
 
 use crate::refusals::{delete_refusal_of, refusal_of};
 use crate::session::Session;
@@ -155,9 +155,9 @@ impl<D: PoolDisks> Session<D> {
         }
     }
 
-    /// Carries out the command of a line.
+    /// Carries out the command of a line that asks for something on one block.
     pub fn carry_out(&mut self, alloc: Global, line: Line) -> Reply
-        requires command { IsCommand line }
+        requires command { IsOnBlock line }
         requires stands { (state : RunState) × SessionStands D.worlds D.volume_count D.Draft.place D.Draft.bytes self.old state }
         ensures step { (state : RunState) → SessionStands D.worlds D.volume_count D.Draft.place D.Draft.bytes self.old state →
             LineCarried (faulty_of D.Draft.place D.Draft.faults D.Reader.number D.Reader.faults) (D.worlds self.old.pool.disks)
@@ -174,7 +174,7 @@ impl<D: PoolDisks> Session<D> {
             Line::Write { id, stamp, hex } => self.write(alloc, id, stamp, hex.as_slice()),
             Line::Read { id } => self.read(alloc, id),
             Line::Delete { id } => self.delete(id),
-            Line::Blank => Reply::Done,
+            Line::Blank | Line::Reopen => Reply::Done,
         }
     }
 }

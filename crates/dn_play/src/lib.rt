@@ -10,6 +10,7 @@ mod open_writers;
 mod playing;
 mod pool_run;
 mod refusals;
+mod reopening;
 mod session;
 mod whole_writes;
 mod words;

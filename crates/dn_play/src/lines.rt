@@ -2,9 +2,12 @@
 ghost use Rattle.std.specs.Prelude.{◌≡◌, ◌≤◌};
 ghost use Rattle.std.specs.Io.KnownBytes.{IsAtEnd};
 ghost use Rattle.disk_model.specs.Causes.{Rose};
+ghost use Rattle.disk_model.specs.Files.{Files};
+ghost use Rattle.disk_model.specs.Told.{CanLeave};
 ghost use Rattle.pool_state.specs.Stands.{GoesOn};
+ghost use Rattle.pool_open.specs.Outcome.{HasTwoMetas};
 ghost use Rattle.dn_play.specs.State.{RunState};
-ghost use Rattle.dn_play.specs.Standing.{SessionStands, SoundFor, faulty_of, mark_of};
+ghost use Rattle.dn_play.specs.Standing.{SessionStands, SoundFor, LeavesAllowed, AnyCells, faulty_of, mark_of};
 ghost use Rattle.dn_play.specs.Answer.{Played, IsOfLines, ending_at};
 
 use crate::answer::answer;
@@ -36,14 +39,16 @@ pub fn play_lines<D: PoolDisks, S: Source, K: Sink>(
     sink: &mut K,
 ) -> Ending
     requires stands { (state : RunState) × SessionStands D.worlds D.volume_count D.Draft.place D.Draft.bytes session.old state }
+    requires one_volume { D.volume_count session.old.pool.disks ≡ 1 }
     ensures played { (state : RunState) → SessionStands D.worlds D.volume_count D.Draft.place D.Draft.bytes session.old state →
         Played (faulty_of D.Draft.place D.Draft.faults D.Reader.number D.Reader.faults) (D.worlds session.old.pool.disks)
         state (mark_of D.faults D.next_number D.moment session.old.pool.disks) (mark_of D.faults D.next_number D.moment session.new.pool.disks)
-        (S.left source.old) (K.taken sink.old) (K.taken sink.new) result (SessionStands D.worlds D.volume_count D.Draft.place D.Draft.bytes session.new)
-        (SoundFor D.worlds D.volume_count D.Draft.place D.Draft.bytes session.old) (SoundFor D.worlds D.volume_count D.Draft.place D.Draft.bytes session.new)
+        (S.left source.old) (K.taken sink.old) (K.taken sink.new) result (LeavesAllowed (D.worlds session.new.pool.disks))
+        (SoundFor D.worlds D.volume_count D.Draft.place D.Draft.bytes session.old) AnyCells
         (D.left_since session.old.pool.disks) (D.left_since session.new.pool.disks) }
     ensures goes_on { GoesOn D.worlds D.faults D.next_number D.moment D.volume_count session.old.pool.disks session.new.pool.disks }
     ensures of_lines { IsOfLines result }
+    ensures two_metas { result ≡ Ending.Later 0 → (image : Files) → CanLeave (D.worlds session.new.pool.disks) image → HasTwoMetas image }
     ensures at_end { result ≡ Ending.Complete → IsAtEnd (S.left source.new) }
     ensures source { result ≡ Ending.SourceFault → Rose (S.faults source.old) (S.faults source.new) }
     ensures sink { result ≡ Ending.SinkFault → Rose (K.faults sink.old) (K.faults sink.new) }

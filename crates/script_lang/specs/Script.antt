@@ -7,7 +7,7 @@ use Rattle.hex.specs.Hex.{decode_of}
 use Rattle.script_lang.specs.declared.LineFault.{LineFault}
 use Rattle.script_lang.specs.declared.LineFault.TheVariants.{Bad, Later}
 use Rattle.script_lang.specs.declared.Line.{Line}
-use Rattle.script_lang.specs.declared.Line.TheVariants.{Blank, Open, Push, Finish, Write, Read, Delete}
+use Rattle.script_lang.specs.declared.Line.TheVariants.{Blank, Open, Push, Finish, Write, Read, Delete, Reopen}
 use Rattle.script_lang.specs.Number.{number_of, id_of, IsId}
 use Rattle.script_lang.specs.Words.{Cursor, first_word, behind_word, field, ends_with, ◌>>=◌}
 
@@ -56,10 +56,14 @@ delete_line c = do
   id ← field id_of c
   ends_with (behind_word c) (Delete id)
 
+-- no more words
+abbrev pub reopen_line : Cursor → Result Line LineFault
+reopen_line c = ends_with c Reopen
+
 -- the first words of the language whose lines aren't carried out yet
 unfoldable pub later_words : List (List ℕ)
 later_words =
-    codes "at" ∷ codes "use" ∷ codes "grow" ∷ codes "drop" ∷ codes "append" ∷ codes "reopen"
+    codes "at" ∷ codes "use" ∷ codes "grow" ∷ codes "drop" ∷ codes "append"
     ∷ codes "mbegin" ∷ codes "mcopy" ∷ codes "mseal" ∷ codes "mpublish" ∷ codes "mdrop" ∷ codes "sweep"
     ∷ codes "report" ∷ codes "balance" ∷ codes "execute" ∷ codes "query" ∷ codes "cancel" ∷ codes "mover"
     ∷ codes "dirlist" ∷ codes "dirdiff" ∷ codes "dirfix" ∷ codes "volload" ∷ codes "volnext" ∷ codes "volcheck" ∷ codes "volreport"
@@ -79,6 +83,7 @@ line_after word c =
     else if bytes_eq word (codes "read") then read_line c
     else if bytes_eq word (codes "write") then write_line c
     else if bytes_eq word (codes "delete") then delete_line c
+    else if bytes_eq word (codes "reopen") then reopen_line c
     else if list_any (bytes_eq word) later_words then Err Later
     else Err (Bad 1)
 
@@ -95,3 +100,4 @@ IsLineInRange (Finish id) = IsId id
 IsLineInRange (Write id stamp hex) = IsId id × IsId stamp
 IsLineInRange (Read id) = IsId id
 IsLineInRange (Delete id) = IsId id
+IsLineInRange Reopen = ⊤

@@ -59,6 +59,8 @@ pub enum Line {
     Delete {
         id: BlockId,
     },
+    /// `reopen` closes the pool and opens it again.
+    Reopen,
 }
 
 /// Why a line was not read.
@@ -101,6 +103,8 @@ pub fn read_line(alloc: Global, line: &[u8]) -> Result<Line, LineFault>
     } else if first == b"delete".as_slice() {
         let id = words.id()?;
         words.end(Line::Delete { id })
+    } else if first == b"reopen".as_slice() {
+        words.end(Line::Reopen)
     } else if is_later(first) {
         Err(LineFault::Later)
     } else {
@@ -109,13 +113,12 @@ pub fn read_line(alloc: Global, line: &[u8]) -> Result<Line, LineFault>
 }
 
 /// The first words of the language whose lines aren't carried out yet.
-const LATER: [&[u8]; 27] = [
+const LATER: [&[u8]; 26] = [
     b"at",
     b"use",
     b"grow",
     b"drop",
     b"append",
-    b"reopen",
     b"mbegin",
     b"mcopy",
     b"mseal",

@@ -1,14 +1,16 @@
-use Rattle.std.proofs.Common.{ap, sym, subst, Ok, Err, arith}
+use Rattle.std.proofs.Common.{ap, sym, ◌∙◌, subst, Ok, Err, arith}
 use Rattle.dn_play.specs.declared.ending.Ending.{Ending}
 use Rattle.dn_play.specs.Answer.{Played}
-use Rattle.dn_play.specs.Standing.{SessionStands, SoundFor, faulty_of, mark_of}
-use Rattle.dn_play.proofs.Progress.{starts, goes_on_by, played_nothing, played_complete, played_fault, played_unanswered, not_complete, not_sink, from_source, rose_from, ends_lines, answered_complete, answered_source}
-use Rattle.dn_play.proofs.Crashes.{now_allowed}
+use Rattle.dn_play.specs.Standing.{SessionStands, SoundFor, LeavesAllowed, AnyCells, faulty_of, mark_of}
+use Rattle.dn_play.proofs.Progress.{starts, goes_on_by, played_nothing, played_complete, played_fault, played_unanswered, played_less, not_complete, not_later, not_sink, from_source, rose_from, ends_lines, answered_complete, answered_source}
+use Rattle.dn_play.proofs.Crashes.{now_allowed, leaves_safe}
 use Rattle.dn_play.proofs.Marks.{went_same, went_then}
 use Rattle.dn_play.proofs.lines.play_lines.Goals as goal
 
 pub returns-in_default-clause-played : goal.returns-in_default-clause-played
-returns-in_default-clause-played g c state standing = played_nothing standing (now_allowed standing.pool (g.met.D.PoolDisks.only_now c.args.session.now.pool.disks)) _ _
+returns-in_default-clause-played g c state standing =
+    played_less {StandsFor = SessionStands g.D.PoolDisks.worlds g.D.PoolDisks.volume_count g.D.Draft.Draft.place g.D.Draft.Draft.bytes c.args.session.now}
+    (played_nothing standing (now_allowed standing.pool (g.met.D.PoolDisks.only_now c.args.session.now.pool.disks)) _ _) (λ s stood. leaves_safe stood.pool)
 
 pub lines-init : goal.lines-init
 lines-init g c = let none_yet = c.new-reader.ensures.count in record {
@@ -25,10 +27,12 @@ returns-in-Err-clause-played g c state standing =
     subst (λ (ending : Ending). Played (faulty_of g.D.Draft.Draft.place g.D.Draft.Draft.faults g.D.Reader.Reader.number g.D.Reader.Reader.faults) (g.D.PoolDisks.worlds c.args.session.now.pool.disks) state
     (mark_of g.D.PoolDisks.faults g.D.PoolDisks.next_number g.D.PoolDisks.moment c.args.session.now.pool.disks) (mark_of g.D.PoolDisks.faults g.D.PoolDisks.next_number g.D.PoolDisks.moment c.lines.session.pool.disks)
     (g.S.Source.left c.args.source.now) (g.K.Sink.taken c.args.sink.now) (g.K.Sink.taken c.lines.sink) ending
-    (SessionStands g.D.PoolDisks.worlds g.D.PoolDisks.volume_count g.D.Draft.Draft.place g.D.Draft.Draft.bytes c.lines.session)
-    (SoundFor g.D.PoolDisks.worlds g.D.PoolDisks.volume_count g.D.Draft.Draft.place g.D.Draft.Draft.bytes c.args.session.now) (SoundFor g.D.PoolDisks.worlds g.D.PoolDisks.volume_count g.D.Draft.Draft.place g.D.Draft.Draft.bytes c.lines.session)
+    (LeavesAllowed (g.D.PoolDisks.worlds c.lines.session.pool.disks))
+    (SoundFor g.D.PoolDisks.worlds g.D.PoolDisks.volume_count g.D.Draft.Draft.place g.D.Draft.Draft.bytes c.args.session.now) AnyCells
     (g.D.PoolDisks.left_since c.args.session.now.pool.disks) (g.D.PoolDisks.left_since c.lines.session.pool.disks)) (sym c.ending_of.ensures)
+    (played_less {StandsFor = SessionStands g.D.PoolDisks.worlds g.D.PoolDisks.volume_count g.D.Draft.Draft.place g.D.Draft.Draft.bytes c.lines.session}
     (played_fault _ (g.S.Source.left c.lines.source) c.lines.reader.bytes c.lines.number c.lines.reader.count _ _ (c.lines.invariant.progress state standing) c.in-Err.fault (λ e. c.in-Err.ensures.limit (ap Err e)))
+    (λ s stood. leaves_safe stood.pool))
 
 pub returns-in-Err-clause-of_lines : goal.returns-in-Err-clause-of_lines
 returns-in-Err-clause-of_lines g c = ends_lines _ _ _ c.ending_of.ensures
@@ -42,10 +46,15 @@ returns-in-Err-clause-source g c = λ e. rose_from _ (g.S.Source.faults c.lines.
 pub returns-in-Err-clause-sink : goal.returns-in-Err-clause-sink
 returns-in-Err-clause-sink g c = λ e. absurd (not_sink _ _ _ c.ending_of.ensures e)
 
+pub returns-in-Err-clause-two_metas : goal.returns-in-Err-clause-two_metas
+returns-in-Err-clause-two_metas g c = λ e. absurd (not_later _ _ _ c.ending_of.ensures e)
+
 pub returns-then-not-found-clause-played : goal.returns-then-not-found-clause-played
 returns-then-not-found-clause-played g c state standing =
-    played_complete _ (g.S.Source.left c.lines.source) c.lines.reader.bytes c.lines.number c.lines.reader.count _ _ (c.lines.invariant.progress state standing)
-    (g.S.Source.left c.next_line.new.source) c.next_line.new.self.bytes (c.in-Ok-next_line.ensures.ended (ap Ok c.if-not-found.true))
+    played_less {StandsFor = SessionStands g.D.PoolDisks.worlds g.D.PoolDisks.volume_count g.D.Draft.Draft.place g.D.Draft.Draft.bytes c.lines.session}
+    (played_complete _ (g.S.Source.left c.lines.source) c.lines.reader.bytes c.lines.number c.lines.reader.count _ _ (c.lines.invariant.progress state standing)
+    (g.S.Source.left c.next_line.new.source) c.next_line.new.self.bytes (c.in-Ok-next_line.ensures.ended (ap Ok c.if-not-found.true)))
+    (λ s stood. leaves_safe stood.pool)
 
 pub returns-then-not-found-clause-at_end : goal.returns-then-not-found-clause-at_end
 returns-then-not-found-clause-at_end g c = λ _. c.in-Ok-next_line.ensures.at_end (ap Ok c.if-not-found.true)
@@ -53,12 +62,18 @@ returns-then-not-found-clause-at_end g c = λ _. c.in-Ok-next_line.ensures.at_en
 pub answer-requires-clause-stands : goal.answer-requires-clause-stands
 answer-requires-clause-stands g c = let p = c.lines.invariant.progress c.requires.stands.0 c.requires.stands.1 in (_, p.stands)
 
+pub answer-requires-clause-one_volume : goal.answer-requires-clause-one_volume
+answer-requires-clause-one_volume g c = c.lines.invariant.went_on.volume_count ∙ c.requires.one_volume
+
 pub returns-in-Err-answer-clause-played : goal.returns-in-Err-answer-clause-played
 returns-in-Err-answer-clause-played g c state standing =
     let p = c.lines.invariant.progress state standing in
     played_unanswered _ (g.S.Source.left c.lines.source) c.lines.reader.bytes c.lines.number c.lines.reader.count _ _ p
     (g.D.PoolDisks.worlds c.lines.session.pool.disks) c.lines.invariant.went_on.honest.0 (g.S.Source.left c.next_line.new.source) c.next_line.new.self.bytes c.next_line.new.self.count _ c.next_line.new.line.items c.deref.result.now c.deref.ensures.value
     (c.in-Ok-next_line.ensures.line (ap Ok c.if-not-found.false)) _ (c.in-Err-answer.ensures.err _ p.stands)
+
+pub returns-in-Err-answer-clause-two_metas : goal.returns-in-Err-answer-clause-two_metas
+returns-in-Err-answer-clause-two_metas g c = λ e. c.in-Err-answer.ensures.two_metas (ap Err e)
 
 pub returns-in-Err-answer-clause-goes_on : goal.returns-in-Err-answer-clause-goes_on
 returns-in-Err-answer-clause-goes_on g c = went_then _ _ _ _ _ _ _ _ c.lines.invariant.went_on c.in-Err-answer.ensures.goes_on
