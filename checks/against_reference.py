@@ -41,6 +41,9 @@ class Reference:
 
     def reply(self, line):
         words = line.split(" ")
+        if words[0] == "reopen":
+            self.reopen()
+            return "ok"
         command, block = words[0], words[1]
         if command == "open":
             refusal = self.refusal(block)
@@ -67,6 +70,8 @@ class Reference:
             stamp, _, pushed = self.written.pop(block)
             self.final[block] = (stamp, pushed)
             return "ok"
+        if command == "drop":
+            return "ok" if self.written.pop(block, None) else "nowriter"
         if command == "read":
             if block in self.final:
                 stamp, content = self.final[block]
@@ -96,10 +101,12 @@ def random_line(rng):
         f"open {block} {stamp} {rng.choice([0, 1, 5, 30])}",
         f"push {block} {content}",
         f"finish {block}",
+        f"drop {block}",
         f"write {block} {stamp} {content}",
         f"read {block}",
         f"read {block}",
         f"delete {block}",
+        "reopen",
     ])
 
 

@@ -1,13 +1,13 @@
 -- What the answer to a line shows.
-use Rattle.std.proofs.Common.{◌≡◌, ℕ, zero, suc, ◌≤◌, ◌⊎◌, inl, inr, List, [], ◌∷◌, refl, ap, sym, ◌∙◌, subst, arith, Option, Some, None, Result, Ok, Err}
+use Rattle.std.proofs.Common.{◌≡◌, true, false, ℕ, zero, suc, ◌≤◌, ◌⊎◌, inl, inr, List, [], ◌∷◌, refl, ap, sym, ◌∙◌, subst, arith, Option, Some, None, Result, Ok, Err}
 use Rattle.std.proofs.lemmas.List.{append-nil}
 use Rattle.std.specs.Io.KnownBytes.{Appends}
 use Rattle.disk_model.specs.Worlds.{World}
 use Rattle.line_io.specs.Written.{AppendsFront}
 use Rattle.script_lang.specs.declared.LineFault.{LineFault}
-use Rattle.script_lang.specs.declared.LineFault.TheVariants.{Bad, Later as NotYet, Memory}
+use Rattle.script_lang.specs.declared.LineFault.TheVariants.{Bad, Memory}
 use Rattle.script_lang.specs.declared.Line.{Line}
-use Rattle.script_lang.specs.declared.Line.TheVariants.{Blank, Open, Push, Finish, Write, Read, Delete, Reopen}
+use Rattle.script_lang.specs.declared.Line.TheVariants.{Blank, Reopen}
 use Rattle.script_lang.specs.declared.reply.Reply.{Reply}
 use Rattle.script_lang.specs.Reply.{reply_line}
 use Rattle.script_lang.specs.Script.{line_of}
@@ -15,8 +15,8 @@ use Rattle.dn_play.specs.declared.ending.Ending.TheVariants.{SinkFault, NoMemory
 use Rattle.dn_play.specs.State.{RunState, Mark, IsLater, Turn, last_state}
 use Rattle.dn_play.specs.Commands.{Trust}
 use Rattle.dn_play.specs.Lines.{Follows}
-use Rattle.dn_play.specs.Standing.{IsKnown, IsCommand, IsOnBlock, LineCarried, LeavesAllowed, AnyCells}
-use Rattle.dn_play.specs.Script.{Script, script_after, goes_on, prepend}
+use Rattle.dn_play.specs.Standing.{IsKnown, is_on_block, LineCarried, LeavesAllowed, AnyCells}
+use Rattle.dn_play.specs.Script.{Script, is_blank, is_carried, script_after, goes_on, prepend}
 use Rattle.disk_model.specs.Files.{Files}
 use Rattle.disk_model.specs.Told.{CanLeave}
 use Rattle.disk_model.specs.Causes.{Rose}
@@ -25,45 +25,26 @@ use Rattle.pool_open.specs.declared.opening.ReopenFault.TheVariants.{Failed, Mem
 use Rattle.dn_play.specs.declared.ending.Ending.{Ending}
 use Rattle.map_model.specs.Cells.{Cells}
 use Rattle.dn_play.specs.Images.{AllowedSince, StaysCrashSafe, LinesCrashSafe}
-use Rattle.dn_play.specs.Answer.{Answered, Unanswered, FirstOfLine, SaysUpTo, EndsAt, reopen_ending}
+use Rattle.dn_play.specs.Answer.{Answered, Unanswered, FirstOfLine, SaysLater, SaysUpTo, EndsAt, reopen_ending}
 
 -- where nothing is written
 pub appends_nothing : (taken : Option (List ℕ)) → Appends taken taken []
 appends_nothing None = tt
 appends_nothing (Some xs) = sym (append-nil xs)
 
--- a line that is no blank is a command
-pub is_command : (line : Line) → (line ≡ Blank → ⊥) → IsCommand line
-is_command Blank h = absurd (h refl)
-is_command (Open id stamp need) h = tt
-is_command (Push id piece) h = tt
-is_command (Finish id) h = tt
-is_command (Write id stamp bytes) h = tt
-is_command (Read id) h = tt
-is_command (Delete id) h = tt
-is_command Reopen h = tt
+-- a line that is no blank
+pub not_blank : (line : Line) → (line ≡ Blank → ⊥) → is_blank line ≡ false
+not_blank Blank apart = absurd (apart refl)
+not_blank line apart = refl
 
--- and one that isn't `reopen` is one on a block
-pub on_block : (line : Line) → IsCommand line → (line ≡ Reopen → ⊥) → IsOnBlock line
-on_block Blank is apart = absurd is
-on_block (Open id stamp need) is apart = tt
-on_block (Push id piece) is apart = tt
-on_block (Finish id) is apart = tt
-on_block (Write id stamp bytes) is apart = tt
-on_block (Read id) is apart = tt
-on_block (Delete id) is apart = tt
+-- a command on a block
+pub on_block : (line : Line) → is_carried line ≡ true → (line ≡ Reopen → ⊥) → is_on_block line ≡ true
 on_block Reopen is apart = absurd (apart refl)
+on_block line is apart = is
 
 -- a command stands before those behind it
-command_says : (line : Line) → IsCommand line → (rest : Script) → goes_on line rest ≡ prepend (line ∷ []) rest
-command_says Blank h rest = absurd h
-command_says (Open id stamp need) h rest = refl
-command_says (Push id piece) h rest = refl
-command_says (Finish id) h rest = refl
-command_says (Write id stamp bytes) h rest = refl
-command_says (Read id) h rest = refl
-command_says (Delete id) h rest = refl
-command_says Reopen h rest = refl
+command_says : (number : ℕ) (line : Line) → is_blank line ≡ false → is_carried line ≡ true → (rest : Script) → goes_on number line rest ≡ prepend (line ∷ []) rest
+command_says number line some is rest = rw some (rw is refl)
 
 -- an answer that is not for want of memory is what the text says
 pub told_ok : (text : List ℕ) (line : Line) → (Ok line ≡ Err Memory) ⊎ (Ok line ≡ line_of text) → line_of text ≡ Ok line
@@ -71,9 +52,6 @@ told_ok text line h = elim h [ inl e ↦ cc | inr e ↦ sym e ]
 
 pub told_bad : (text : List ℕ) (fault : LineFault) (column : ℕ) → fault ≡ Bad column → (◌≡◌ {A = Result Line LineFault} (Err fault) (Err Memory)) ⊎ (Err fault ≡ line_of text) → line_of text ≡ Err (Bad column)
 told_bad text fault column is h = elim h [ inl e ↦ absurd cc | inr e ↦ sym e ∙ ap Err is ]
-
-pub told_later : (text : List ℕ) (fault : LineFault) → fault ≡ NotYet → (◌≡◌ {A = Result Line LineFault} (Err fault) (Err Memory)) ⊎ (Err fault ≡ line_of text) → line_of text ≡ Err NotYet
-told_later text fault is h = elim h [ inl e ↦ absurd cc | inr e ↦ sym e ∙ ap Err is ]
 
 -- the counts stay
 pub mark_stays : (mark : Mark) → IsLater mark mark
@@ -83,7 +61,7 @@ ends_later : (number : ℕ) (mark : Mark) → EndsAt (Later number) mark mark
 ends_later zero mark = mark_stays mark
 ends_later (suc number) mark = refl
 
-says_later : (number : ℕ) (text : List ℕ) → line_of text ≡ Err NotYet → 1 ≤ number → SaysUpTo number text [] (Later number)
+says_later : (number : ℕ) (text : List ℕ) → SaysLater text → 1 ≤ number → SaysUpTo number text [] (Later number)
 says_later zero text e some = absurd (omega (arith, some))
 says_later (suc number) text e some = (refl, refl, e)
 
@@ -106,11 +84,11 @@ module _ {Faulty : ℕ → ℕ → Type 0} {told : Option (List World)} {state :
   }
 
   -- a line outside the language
-  pub unanswered_outside : (taken : Option (List ℕ)) (number : ℕ) (text : List ℕ) (column : ℕ) → line_of text ≡ Err (Bad column) → Unanswered Faulty told state before before taken taken number text (Outside number 1) StandsFor Sound Sound past past
+  pub unanswered_outside : (taken : Option (List ℕ)) (number : ℕ) (text : List ℕ) (column : ℕ) → line_of text ≡ Err (Bad column) → Unanswered Faulty told state before before taken taken number text (Outside number column) StandsFor Sound Sound past past
   unanswered_outside taken number text column e = record {
     turns = [];
     shown = [];
-    says = (refl, refl, (column, refl, e));
+    says = (refl, refl, e);
     follows = λ trust known. tt;
     stands = stands;
     at_mark = refl;
@@ -120,7 +98,7 @@ module _ {Faulty : ℕ → ℕ → Type 0} {told : Option (List World)} {state :
   }
 
   -- a line that isn't carried out yet
-  pub unanswered_later : (taken : Option (List ℕ)) (number : ℕ) (text : List ℕ) → line_of text ≡ Err NotYet → 1 ≤ number → Unanswered Faulty told state before before taken taken number text (Later number) StandsFor Sound Sound past past
+  pub unanswered_later : (taken : Option (List ℕ)) (number : ℕ) (text : List ℕ) → SaysLater text → 1 ≤ number → Unanswered Faulty told state before before taken taken number text (Later number) StandsFor Sound Sound past past
   unanswered_later taken number text e some = record {
     turns = [];
     shown = [];
@@ -150,7 +128,7 @@ module _ {Faulty : ℕ → ℕ → Type 0} {told : Option (List World)} {state :
 module _ {Faulty : ℕ → ℕ → Type 0} {told : Option (List World)} {state : RunState} {before : Mark} {Sound : Cells → Type 0} {past : ℕ → Files → Type 0}
     (now : AllowedSince past before.moment state []) where
   module _ {after : Mark} {StandsThen : RunState → Type 0} {SoundThen : Cells → Type 0} {since : ℕ → Files → Type 0} (taken taken' : Option (List ℕ)) (number : ℕ) (text : List ℕ) (line : Line) (reply : Reply)
-      (e : line_of text ≡ Ok line) (is : IsCommand line) (counts : IsLater before after) (carried : LineCarried Faulty told state before line reply after StandsThen Sound SoundThen past since)
+      (e : line_of text ≡ Ok line) (some : is_blank line ≡ false) (is : is_carried line ≡ true) (counts : IsLater before after) (carried : LineCarried Faulty told state before line reply after StandsThen Sound SoundThen past since)
       (then : AllowedSince since after.moment carried.new []) where
     abbrev turn : Turn
     turn = record { line = line; reply = reply; state = carried.new; mark = after }
@@ -175,13 +153,13 @@ module _ {Faulty : ℕ → ℕ → Type 0} {told : Option (List World)} {state :
     }
 
     first_command : FirstOfLine number text (line ∷ [])
-    first_command = λ rest. (rest.commands, ap (λ s. s.commands) (ap (λ r. script_after number r rest) e ∙ command_says line is rest))
+    first_command = λ rest. (rest.commands, ap (λ s. s.commands) (ap (λ r. script_after number r rest) e ∙ command_says number line some is rest))
 
     -- a command that is carried out, with its reply written
     pub answered_command : Appends taken taken' (reply_line reply) → Answered Faulty told state before after taken taken' text StandsThen Sound SoundThen past since
     answered_command written = record {
       turns = turn ∷ [];
-      says = λ n rest. ap (λ r. script_after n r rest) e ∙ command_says line is rest;
+      says = λ n rest. ap (λ r. script_after n r rest) e ∙ command_says n line some is rest;
       follows = follows;
       stands = carried.stands;
       at_mark = refl;

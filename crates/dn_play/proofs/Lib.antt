@@ -11,3 +11,4 @@ pub mod LastLine
 pub mod OneDisk
 pub mod Judging
 mod PutFiles
+mod FreshImages

@@ -1,5 +1,5 @@
 -- How far a session has come, and how a line takes it on.
-use Rattle.std.proofs.Common.{◌≡◌, ℕ, zero, ◌+◌, ◌≤◌, suc, List, [], ◌∷◌, ◌++◌, length, take, refl, ap, sym, ◌∙◌, subst, arith, Option, Some, None, IfSome, IsSome}
+use Rattle.std.proofs.Common.{◌≡◌, false, ℕ, zero, ◌+◌, ◌≤◌, suc, List, [], ◌∷◌, ◌++◌, length, take, refl, ap, sym, ◌∙◌, subst, arith, Option, Some, None, IfSome, IsSome}
 use Rattle.std.proofs.lemmas.List.{append-nil, append_assoc}
 use Rattle.std.specs.Io.KnownBytes.{Appends}
 use Rattle.disk_model.specs.Worlds.{World}
@@ -19,7 +19,7 @@ use Rattle.dn_play.specs.State.{RunState, Mark, IsLater, Turn, turn_lines, turn_
 use Rattle.dn_play.specs.Commands.{Trust, any_disks, telling_disks}
 use Rattle.dn_play.specs.Lines.{Follows}
 use Rattle.dn_play.specs.Standing.{IsKnown}
-use Rattle.dn_play.specs.Script.{Script, AtEnd, AtOutside, AtLimit, AtLater, stops, script_after, script_from, script_of, prepend, printed_column}
+use Rattle.dn_play.specs.Script.{Script, AtEnd, AtOutside, AtLimit, AtLater, stops, script_after, script_from, script_of, prepend, is_blank, is_carried, goes_on}
 use Rattle.dn_play.specs.Session.{Shows, WritesReplies, text_of, Reads, FirstCommands, AllCommands}
 use Rattle.dn_play.specs.Answer.{Answered, Unanswered, FirstOfLine, SaysUpTo, SaysReopen, EndsAt, Played, IsOfLines, ending_at}
 use Rattle.disk_model.specs.Files.{Files}
@@ -181,6 +181,10 @@ first_on input left left' pending pending' number count count' text commands oth
     (λ u m r e k. let f = says (script_from (number + 1) count' (terminated_lines r)) in
     (f.0, ap (λ s. s.commands) (e ∙ ap (prepend commands) (script_by_line number count count' m text r k)) ∙ ap (λ c. commands ++ c) f.1 ∙ sym (append_assoc commands others f.0)))
 
+-- a script stops at a line that isn't carried out yet
+later_stops : (number : ℕ) (line : Line) → (is_blank line ≡ false) × (is_carried line ≡ false) → (rest : Script) → goes_on number line rest ≡ stops (AtLater number)
+later_stops number line is rest = rw is.0 (rw is.1 refl)
+
 -- the next line asks for an opening again
 reopen_on : (input left left' : Option (List ℕ)) (pending pending' : List ℕ) (number count count' : ℕ) (text : List ℕ) (commands others : List Line) →
     OfUnread (λ unread rest. script_of unread ≡ prepend commands (script_from number count (terminated_lines rest))) [] input pending left → OfUnread (λ unread rest. TakesLine count unread text count' rest) pending left pending' left' →
@@ -202,14 +206,13 @@ reads_on input left left' pending pending' number count count' text commands oth
 reads_on input left left' pending pending' number count count' text commands others NoMemory h t says = first_on input left left' pending pending' number count count' text commands others h t says
 reads_on input left left' pending pending' number count count' text commands others (Outside line column) h t says =
     unread_both (λ unread rest. script_of unread ≡ prepend commands (script_from number count (terminated_lines rest))) (λ unread rest. TakesLine count unread text count' rest) (λ bytes. AllCommands bytes (commands ++ others) (AtOutside line column)) pending pending' input left left' h t
-    (λ u m r e k. e ∙ ap (prepend commands) (script_by_line number count count' m text r k ∙ ap (λ l. script_after (number + 1) l (script_from (number + 1) count' (terminated_lines r))) says.2.2)
-    ∙ ap (λ (c : List Line). record { commands = commands ++ c; stop = AtOutside (number + 1) (printed_column says.2.0) }) (sym says.0)
-    ∙ ap (λ (n : ℕ). record { commands = commands ++ others; stop = AtOutside n (printed_column says.2.0) }) (sym says.1)
-    ∙ ap (λ (n : ℕ). record { commands = commands ++ others; stop = AtOutside line n }) (sym says.2.1))
+    (λ u m r e k. e ∙ ap (prepend commands) (script_by_line number count count' m text r k ∙ ap (λ l. script_after (number + 1) l (script_from (number + 1) count' (terminated_lines r))) says.2)
+    ∙ ap (λ (c : List Line). record { commands = commands ++ c; stop = AtOutside (number + 1) column }) (sym says.0)
+    ∙ ap (λ (n : ℕ). record { commands = commands ++ others; stop = AtOutside n column }) (sym says.1))
 reads_on input left left' pending pending' number count count' text commands others (Later zero) h t says = reopen_on input left left' pending pending' number count count' text commands others h t says
 reads_on input left left' pending pending' number count count' text commands others (Later (suc line)) h t says =
     unread_both (λ unread rest. script_of unread ≡ prepend commands (script_from number count (terminated_lines rest))) (λ unread rest. TakesLine count unread text count' rest) (λ bytes. AllCommands bytes (commands ++ others) (AtLater (suc line))) pending pending' input left left' h t
-    (λ u m r e k. e ∙ ap (prepend commands) (script_by_line number count count' m text r k ∙ ap (λ l. script_after (number + 1) l (script_from (number + 1) count' (terminated_lines r))) says.2)
+    (λ u m r e k. e ∙ ap (prepend commands) (script_by_line number count count' m text r k ∙ ap (λ l. script_after (number + 1) l (script_from (number + 1) count' (terminated_lines r))) says.2.1 ∙ later_stops (number + 1) says.2.0 (says.2.2, says.2.3) (script_from (number + 1) count' (terminated_lines r)))
     ∙ ap (λ (c : List Line). record { commands = commands ++ c; stop = AtLater (number + 1) }) (sym says.0)
     ∙ ap (λ (n : ℕ). record { commands = commands ++ others; stop = AtLater n }) (sym says.1))
 

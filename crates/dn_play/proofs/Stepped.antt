@@ -1,12 +1,13 @@
 -- Steps of the commands, and what their replies say.
-use Rattle.std.proofs.Common.{◌≡◌, ◌⊎◌, ◌<◌, ◌≤◌, ◌^◌, inl, inr, ℕ, MatchOption, true, false, List, length, take, Option, None, Some, refl, sym, ◌∙◌, ap, subst, arith, IsSomeAnd, IfSome, nat_lt}
+use Rattle.std.proofs.Common.{◌≡◌, ◌⊎◌, ◌<◌, ◌≤◌, ◌^◌, inl, inr, ℕ, MatchOption, true, false, List, length, take, Option, None, Some, refl, sym, ◌∙◌, ap, subst, arith, IsSomeAnd, IfSome, nat_lt, ◌==◌, if◌then◌else◌}
+use Rattle.std.proofs.lemmas.Bool.{cases_eq, eq-eqb, ne_eqb}
 use Rattle.std.proofs.lemmas.Bool.Decides.{nat_tests}
 use Rattle.std.proofs.lemmas.Option.{same_Some}
 use Rattle.std.proofs.Math.Seq.{take-length}
 use Rattle.disk_model.specs.Worlds.{World, DraftPlace, draft_at}
 use Rattle.disk_model.specs.Causes.{FaultyOne}
 use Rattle.map_model.specs.Cells.{Replica, Cell, Cells, absent, final, growing, unsure, waiting}
-use Rattle.map_model.specs.Steps.{Reply as Answer, Step, CarriedOut, cell_after, success, start_write, push, finish, write, read, delete, write_refusal, delete_refusal, half_deleted, content, done, no_block, is_writing, is_waiting, failed, memory, over, no_writer}
+use Rattle.map_model.specs.Steps.{Reply as Answer, Step, CarriedOut, cell_after, success, start_write, push, finish, drop_write, write, read, delete, write_refusal, delete_refusal, half_deleted, content, done, no_block, is_writing, is_waiting, failed, memory, over, no_writer}
 use Rattle.pool_state.specs.declared.start_fault.StartFault.{StartFault}
 use Rattle.pool_state.specs.declared.start_fault.StartFault.TheVariants.{Exists as WasThere, None as WasAbsent, Writing as WasWriting, Waiting as WasWaiting, Unsure as WasUnsure, Failed as HasFailed, Memory as NoMemory}
 use Rattle.pool_state.specs.declared.deleting.DeleteFault.{DeleteFault}
@@ -80,6 +81,20 @@ no_finish (final replica) rests = (refl, refl)
 no_finish (growing stamp base bytes left) rests = absurd rests
 no_finish (unsure x y cut) rests = (refl, refl)
 no_finish waiting rests = (refl, refl)
+
+pub no_drop : (cell : Cell) → NotGrowing cell → Step unlimited cell drop_write no_writer cell
+no_drop absent rests = (refl, refl)
+no_drop (final replica) rests = (refl, refl)
+no_drop (growing stamp base bytes left) rests = absurd rests
+no_drop (unsure x y cut) rests = (refl, refl)
+no_drop waiting rests = (refl, refl)
+
+-- where a block has no writer, none is taken out
+pub same_entries : {W : Type 0} (id : ℕ) (old new : ℕ → Option W) → old id ≡ None → ((other : ℕ) → new other ≡ (if other == id then None else old other)) → (other : ℕ) → new other ≡ old other
+same_entries id old new none taken other = elim (cases_eq other id) [
+  | inl same ↦ taken other ∙ rw (eq-eqb other id same) (sym (ap old same ∙ none))
+  | inr apart ↦ taken other ∙ rw (ne_eqb other id apart) refl
+]
 
 passes : (left n : ℕ) → left < n → nat_lt left n ≡ true
 passes left n past = grind (arith, nat_tests)

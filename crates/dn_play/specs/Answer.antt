@@ -1,5 +1,5 @@
 -- What the answer to one line does, and what the lines of a session do.
-use Rattle.std.specs.Prelude.{◌≡◌, ◌≢◌, ◌⊎◌, ℕ, ◌++◌, List, [], Option, Ok, Err, IfSome, ⊤, zero, suc}
+use Rattle.std.specs.Prelude.{◌≡◌, ◌≢◌, ◌⊎◌, ℕ, false, ◌++◌, List, [], Option, Ok, Err, IfSome, ⊤, zero, suc}
 use Rattle.std.specs.Io.KnownBytes.{Appends}
 use Rattle.disk_model.specs.Worlds.{World}
 use Rattle.disk_model.specs.Causes.{Rose}
@@ -7,7 +7,7 @@ use Rattle.line_io.specs.declared.lines.ReadFault.{ReadFault}
 use Rattle.line_io.specs.declared.lines.ReadFault.TheVariants.{Source, Limit as LineLimit, Memory}
 use Rattle.pool_open.specs.declared.opening.ReopenFault.{ReopenFault}
 use Rattle.pool_open.specs.declared.opening.ReopenFault.TheVariants.{Failed, Memory as NoRoom, Later as TwoMetas}
-use Rattle.script_lang.specs.declared.LineFault.TheVariants.{Bad, Later as NotYet}
+use Rattle.script_lang.specs.declared.LineFault.TheVariants.{Bad}
 use Rattle.script_lang.specs.declared.Line.{Line}
 use Rattle.script_lang.specs.declared.Line.TheVariants.{Reopen}
 use Rattle.script_lang.specs.declared.reply.Reply.{Reply}
@@ -21,7 +21,7 @@ use Rattle.dn_play.specs.Images.{LinesCrashSafe}
 use Rattle.disk_model.specs.Files.{Files}
 use Rattle.map_model.specs.Cells.{Cells}
 use Rattle.dn_play.specs.Standing.{IsKnown}
-use Rattle.dn_play.specs.Script.{Script, script_after, prepend, printed_column}
+use Rattle.dn_play.specs.Script.{Script, is_blank, is_carried, script_after, prepend}
 use Rattle.dn_play.specs.Session.{Reads, Shows, Writes, WritesReplies, text_of, status_of, last_line}
 
 -- the line's command, if it has one, was carried out, and its reply written
@@ -63,6 +63,10 @@ reopen_ending Failed = OpenFault
 reopen_ending NoRoom = NoMemory
 reopen_ending TwoMetas = Later 0
 
+-- the line is in the language, and isn't carried out yet
+abbrev pub SaysLater : List ℕ → Type 0
+SaysLater text = (line : Line) × (line_of text ≡ Ok line) × (is_blank line ≡ false) × (is_carried line ≡ false)
+
 -- what a line says that was not answered
 abbrev pub SaysUpTo : ℕ → List ℕ → List Line → Ending → Type 0
 SaysUpTo number text commands Complete = ⊥
@@ -70,11 +74,11 @@ SaysUpTo number text commands Usage = ⊥
 SaysUpTo number text commands SourceFault = ⊥
 SaysUpTo number text commands SinkFault = FirstOfLine number text commands
 SaysUpTo number text commands NoMemory = FirstOfLine number text commands
-SaysUpTo number text commands (Outside line column) = (commands ≡ []) × (line ≡ number) × ((word : ℕ) × (column ≡ printed_column word) × (line_of text ≡ Err (Bad word)))
+SaysUpTo number text commands (Outside line column) = (commands ≡ []) × (line ≡ number) × (line_of text ≡ Err (Bad column))
 SaysUpTo number text commands OpenFault = SaysReopen text commands
 SaysUpTo number text commands (Limit line) = ⊥
 SaysUpTo number text commands (Later zero) = SaysReopen text commands
-SaysUpTo number text commands (Later (suc line)) = (commands ≡ []) × (suc line ≡ number) × (line_of text ≡ Err NotYet)
+SaysUpTo number text commands (Later (suc line)) = (commands ≡ []) × (suc line ≡ number) × SaysLater text
 
 -- the line was not answered, or not wholly
 pub record Unanswered (Faulty : ℕ → ℕ → Type 0) (told : Option (List World)) (state : RunState) (before after : Mark) (taken taken' : Option (List ℕ)) (number : ℕ) (text : List ℕ)

@@ -4,7 +4,7 @@ use Rattle.disk_model.specs.Causes.{Rose}
 use Rattle.script_lang.specs.declared.reply.Reply.{Reply}
 use Rattle.script_lang.specs.declared.reply.Reply.TheVariants.{Done, Data, Exists, NoBlock, Writing, Waiting, Unsure, OldStamp, Full, TooLong, Failed, Memory, Over, NoWriter, Worn, Short}
 use Rattle.map_model.specs.Cells.{Replica, Cell, waiting, unsure}
-use Rattle.map_model.specs.Steps.{Command, start_write, finish, write, read, delete, half_deleted, CellsStep}
+use Rattle.map_model.specs.Steps.{Command, start_write, finish, drop_write, write, read, delete, half_deleted, CellsStep}
 use Rattle.map_model.specs.Steps.{Reply as Answer, done, content, exists, no_block, is_writing, is_waiting, is_unsure, old_stamp, full, too_long, failed, memory, over, no_writer, worn}
 use Rattle.pool_state.specs.Answers.{unlimited}
 use Rattle.dn_play.specs.State.{Numbers, RunState, Mark}
@@ -50,6 +50,7 @@ abbrev pub FailsBy : (Faulty : ℕ → ℕ → Type 0) (before after : Mark) (wr
 FailsBy Faulty before after writer old (start_write stamp need) new = DisksFailed before after × (new ≡ waiting)
 FailsBy Faulty before after writer old finish (unsure x y cut) = DisksFailed before after
 FailsBy Faulty before after writer old finish new = Faulty writer.first writer.last
+FailsBy Faulty before after writer old drop_write new = DisksFailed before after
 FailsBy Faulty before after writer old (write stamp bytes) (unsure x y cut) = DisksFailed before after
 FailsBy Faulty before after writer old (write stamp bytes) new = (DisksFailed before after ⊎ Faulty before.next_number after.next_number) × (new ≡ waiting)
 FailsBy Faulty before after writer old read new = DisksFailed before after ⊎ Faulty before.next_number after.next_number

@@ -2,11 +2,11 @@
 use Rattle.std.specs.Prelude.{ℕ, ◌≡◌, List, [], ◌∷◌, ⊤}
 use Rattle.volume_layout.specs.Paths.{IsBlockId}
 use Rattle.script_lang.specs.declared.Line.{Line}
-use Rattle.script_lang.specs.declared.Line.TheVariants.{Blank, Open, Push, Finish, Write, Read, Delete, Reopen}
+use Rattle.script_lang.specs.declared.Line.TheVariants.{Open, Push, Finish, Drop, Write, Read, Delete, Reopen}
 use Rattle.script_lang.specs.declared.reply.Reply.{Reply}
 use Rattle.script_lang.specs.declared.reply.Reply.TheVariants.{Done}
 use Rattle.map_model.specs.Cells.{Cells}
-use Rattle.map_model.specs.Steps.{start_write, push, finish, write, read, delete, Reopened}
+use Rattle.map_model.specs.Steps.{start_write, push, finish, drop_write, write, read, delete, Reopened}
 use Rattle.pool_open.specs.Outcome.{IsOpened}
 use Rattle.dn_play.specs.State.{RunState, Mark, IsLater, Turn}
 use Rattle.dn_play.specs.Commands.{Trust, any_disks, telling_disks, CommandStep}
@@ -23,16 +23,17 @@ pub record Reopens (trust : Trust) (old : RunState) (reply : Reply) (new : RunSt
   pub cells : CellsReopened trust old.cells new.cells
   pub writers : (id : ℕ) → new.writers id ≡ old.writers id
 
--- what each line does
+-- what each line does that is carried out
 abbrev pub Does : Trust → (ℕ → ℕ → Type 0) → RunState → Mark → Line → Reply → RunState → Mark → Type 0
 Does trust Faulty old before (Open id stamp need) reply new after = CommandStep trust Faulty old before id (start_write stamp need) reply new after
 Does trust Faulty old before (Push id piece) reply new after = CommandStep trust Faulty old before id (push piece) reply new after
 Does trust Faulty old before (Finish id) reply new after = CommandStep trust Faulty old before id finish reply new after
+Does trust Faulty old before (Drop id) reply new after = CommandStep trust Faulty old before id drop_write reply new after
 Does trust Faulty old before (Write id stamp bytes) reply new after = CommandStep trust Faulty old before id (write stamp bytes) reply new after
 Does trust Faulty old before (Read id) reply new after = CommandStep trust Faulty old before id read reply new after
 Does trust Faulty old before (Delete id) reply new after = CommandStep trust Faulty old before id delete reply new after
 Does trust Faulty old before Reopen reply new after = Reopens trust old reply new
-Does trust Faulty old before Blank reply new after = ⊥
+Does trust Faulty old before line reply new after = ⊥
 
 -- one line: from this state and these counts it gives this reply and goes on to that state and those counts
 pub record LineStep (trust : Trust) (Faulty : ℕ → ℕ → Type 0) (old : RunState) (before : Mark) (line : Line) (reply : Reply) (new : RunState) (after : Mark) : Type 0 where

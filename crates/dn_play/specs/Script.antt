@@ -1,10 +1,10 @@
 -- The commands of a script, and how it ends.
-use Rattle.std.specs.Prelude.{ℕ, ◌+◌, if◌then◌else◌, List, [], ◌∷◌, ◌++◌, length, Result, Ok, Err}
+use Rattle.std.specs.Prelude.{ℕ, ◌+◌, Bool, true, false, if◌then◌else◌, List, [], ◌∷◌, ◌++◌, length, Result, Ok, Err}
 use Rattle.line_io.specs.Lines.{terminated_lines, line_text, passes_limit}
 use Rattle.script_lang.specs.declared.LineFault.{LineFault}
-use Rattle.script_lang.specs.declared.LineFault.TheVariants.{Bad, Later, Memory}
+use Rattle.script_lang.specs.declared.LineFault.TheVariants.{Bad, Memory}
 use Rattle.script_lang.specs.declared.Line.{Line}
-use Rattle.script_lang.specs.declared.Line.TheVariants.{Blank}
+use Rattle.script_lang.specs.declared.Line.TheVariants.{Blank, Open, Push, Finish, Drop, Write, Read, Delete, Reopen}
 use Rattle.script_lang.specs.Script.{line_of}
 
 -- at the end of the input, at the first line outside the language with the column of the word that does not fit, at the
@@ -27,20 +27,32 @@ stops stop = record { commands = []; stop = stop }
 abbrev pub prepend : List Line → Script → Script
 prepend commands rest = record { commands = commands ++ rest.commands; stop = rest.stop }
 
--- a command and those behind it
-abbrev pub goes_on : Line → Script → Script
-goes_on Blank rest = rest
-goes_on command rest = record { commands = command ∷ rest.commands; stop = rest.stop }
+-- an empty line or a comment
+abbrev pub is_blank : Line → Bool
+is_blank Blank = true
+is_blank line = false
 
--- the column that is printed: 1, until the whole language is read
-abbrev pub printed_column : ℕ → ℕ
-printed_column column = 1
+-- the commands that are carried out
+abbrev pub is_carried : Line → Bool
+is_carried (Open id stamp need) = true
+is_carried (Push id piece) = true
+is_carried (Finish id) = true
+is_carried (Drop id) = true
+is_carried (Write id stamp bytes) = true
+is_carried (Read id) = true
+is_carried (Delete id) = true
+is_carried Reopen = true
+is_carried line = false
+
+-- a line, and those behind it: the script stops at a command that isn't carried out yet
+abbrev pub goes_on : ℕ → Line → Script → Script
+goes_on number line rest =
+    if is_blank line then rest else if is_carried line then record { commands = line ∷ rest.commands; stop = rest.stop } else stops (AtLater number)
 
 -- what a line says, and then the lines behind it
 abbrev pub script_after : ℕ → Result Line LineFault → Script → Script
-script_after number (Ok line) rest = goes_on line rest
-script_after number (Err (Bad column)) rest = stops (AtOutside number (printed_column column))
-script_after number (Err Later) rest = stops (AtLater number)
+script_after number (Ok line) rest = goes_on number line rest
+script_after number (Err (Bad column)) rest = stops (AtOutside number column)
 script_after number (Err Memory) rest = rest
 
 -- the script of the lines behind so many lines and so many bytes

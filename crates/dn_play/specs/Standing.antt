@@ -1,5 +1,5 @@
 -- When a session stands for the state of a run.
-use Rattle.std.specs.Prelude.{ℕ, ◌≡◌, ◌-◌, true, false, List, Option, None, MatchOption, option_map, ⊤, IsSome, nat_eq, ◌⊎◌}
+use Rattle.std.specs.Prelude.{ℕ, ◌≡◌, ◌-◌, Bool, true, false, List, Option, None, MatchOption, option_map, ⊤, IsSome, nat_eq, ◌⊎◌}
 use Rattle.disk_model.specs.Worlds.{World, DraftPlace}
 use Rattle.disk_model.specs.Causes.{FaultyOne}
 use Rattle.indexmap.specs.IndexMap.{get}
@@ -18,11 +18,12 @@ use Rattle.pool_state.specs.Stands.{PoolStands, Stands}
 use Rattle.pool_state.specs.Writers.{Writer, WriterStands, writer_of}
 use Rattle.script_lang.specs.declared.reply.Reply.{Reply}
 use Rattle.script_lang.specs.declared.Line.{Line}
-use Rattle.script_lang.specs.declared.Line.TheVariants.{Blank, Open, Push, Finish, Write, Read, Delete, Reopen}
+use Rattle.script_lang.specs.declared.Line.TheVariants.{Reopen}
 use Rattle.dn_play.specs.declared.session.Session.{Session}
 use Rattle.dn_play.specs.State.{Numbers, RunState, Mark}
 use Rattle.dn_play.specs.Commands.{Trust, any_disks, telling_disks, CommandStep}
 use Rattle.dn_play.specs.Lines.{Does}
+use Rattle.dn_play.specs.Script.{is_carried}
 use Rattle.dn_play.specs.Images.{CrashSafe}
 
 -- the cell has no writer
@@ -92,27 +93,10 @@ pub record CarriesOut (Faulty : ℕ → ℕ → Type 0) (told : Option (List Wor
   pub step : (trust : Trust) → IsKnown trust told → CommandStep trust Faulty old before id command reply new after
   pub crash : CrashSafe old.cells new.cells Sound SoundNow past since
 
--- the line asks for something
-abbrev pub IsCommand : Line → Type 0
-IsCommand Blank = ⊥
-IsCommand (Open id stamp need) = ⊤
-IsCommand (Push id piece) = ⊤
-IsCommand (Finish id) = ⊤
-IsCommand (Write id stamp bytes) = ⊤
-IsCommand (Read id) = ⊤
-IsCommand (Delete id) = ⊤
-IsCommand Reopen = ⊤
-
--- it asks for something on one block
-abbrev pub IsOnBlock : Line → Type 0
-IsOnBlock Blank = ⊥
-IsOnBlock (Open id stamp need) = ⊤
-IsOnBlock (Push id piece) = ⊤
-IsOnBlock (Finish id) = ⊤
-IsOnBlock (Write id stamp bytes) = ⊤
-IsOnBlock (Read id) = ⊤
-IsOnBlock (Delete id) = ⊤
-IsOnBlock Reopen = ⊥
+-- the line asks for something on one block
+abbrev pub is_on_block : Line → Bool
+is_on_block Reopen = false
+is_on_block line = is_carried line
 
 -- A line was carried out: the session stands for another state, to which the line leads, whatever is known of the disks.
 pub record LineCarried (Faulty : ℕ → ℕ → Type 0) (told : Option (List World)) (old : RunState) (before : Mark) (line : Line) (reply : Reply) (after : Mark)

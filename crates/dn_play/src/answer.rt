@@ -1,14 +1,15 @@
 //! The answer to one line.
-ghost use Rattle.std.specs.Prelude.{◌≡◌, ◌≤◌, OnOk, OnErr, IfOk, IfErr, IsErr, IsErrOf};
+ghost use Rattle.std.specs.Prelude.{true, ◌≡◌, ◌≤◌, OnOk, OnErr, IfOk, IfErr, IsErr, IsErrOf};
 ghost use Rattle.disk_model.specs.Causes.{Rose};
 ghost use Rattle.disk_model.specs.Files.{Files};
 ghost use Rattle.disk_model.specs.Told.{CanLeave};
 ghost use Rattle.pool_state.specs.Stands.{GoesOn};
 ghost use Rattle.pool_open.specs.Outcome.{HasTwoMetas};
 ghost use Rattle.script_lang.specs.declared.Line.TheVariants.{Reopen};
+ghost use Rattle.dn_play.specs.Script.{is_carried};
 ghost use Rattle.dn_play.specs.State.{RunState};
 ghost use Rattle.dn_play.specs.Images.{StaysCrashSafe};
-ghost use Rattle.dn_play.specs.Standing.{SessionStands, SoundFor, LineCarried, IsCommand, LeavesAllowed, AnyCells, faulty_of, mark_of};
+ghost use Rattle.dn_play.specs.Standing.{SessionStands, SoundFor, LineCarried, LeavesAllowed, AnyCells, faulty_of, mark_of};
 ghost use Rattle.dn_play.specs.Answer.{Answered, Unanswered, IsOfLines, reopen_ending};
 
 use crate::ending::Ending;
@@ -20,8 +21,22 @@ use script_lang::reply::{Reply, write_reply};
 use script_lang::{Line, LineFault, read_line};
 use std::alloc::Global;
 
-/// The column that is printed for a line outside the language, until the whole language is read.
-const COLUMN: u64 = 1;
+/// Whether a line asks for something that is carried out.
+fn is_carried_out(line: &Line) -> bool
+    ensures { result ≡ is_carried line.now }
+{
+    match line {
+        Line::Open { .. }
+        | Line::Push { .. }
+        | Line::Finish { .. }
+        | Line::Drop { .. }
+        | Line::Write { .. }
+        | Line::Read { .. }
+        | Line::Delete { .. }
+        | Line::Reopen => true,
+        _ => false,
+    }
+}
 
 /// How a session ends whose pool was not opened again.
 fn reopen_ending_of(fault: ReopenFault) -> Ending
@@ -40,7 +55,7 @@ fn carry_out<D: PoolDisks>(
     session: &mut Session<D>,
     line: Line,
 ) -> Result<Reply, ReopenFault>
-    requires command { IsCommand line }
+    requires command { is_carried line ≡ true }
     requires stands { (state : RunState) × SessionStands D.worlds D.volume_count D.Draft.place D.Draft.bytes session.old state }
     requires one_volume { D.volume_count session.old.pool.disks ≡ 1 }
     ensures ok { (state : RunState) → SessionStands D.worlds D.volume_count D.Draft.place D.Draft.bytes session.old state →
@@ -97,17 +112,19 @@ pub fn answer<D: PoolDisks, K: Sink>(
 {
     let line = match read_line(alloc, text) {
         Ok(line) => line,
-        Err(LineFault::Bad { .. }) => return Err(Ending::Outside {
+        Err(LineFault::Bad { column }) => return Err(Ending::Outside {
             line: number,
-            column: COLUMN,
+            column,
         }),
-        Err(LineFault::Later) => return Err(Ending::Later { line: number }),
         Err(LineFault::Memory) => return Err(Ending::NoMemory),
     };
     let command = match line {
         Line::Blank => return Ok(()),
         command => command,
     };
+    if !is_carried_out(&command) {
+        return Err(Ending::Later { line: number });
+    }
     let reply = match carry_out(alloc, session, command) {
         Ok(reply) => reply,
         Err(fault) => return Err(reopen_ending_of(fault)),

@@ -1,15 +1,15 @@
 //! The commands of the lines, each on one block.
-ghost use Rattle.std.specs.Prelude.{◌≡◌, ◌≢◌, ◌≤◌, ◌<◌, ℕ, List, IsOk, None, Some, nat_eq, ◌==◌, if◌then◌else◌};
+ghost use Rattle.std.specs.Prelude.{true, ◌≡◌, ◌≢◌, ◌≤◌, ◌<◌, ℕ, List, IsOk, None, Some, nat_eq, ◌==◌, if◌then◌else◌};
 ghost use Rattle.indexmap.specs.IndexMap.{get, spare};
 ghost use Rattle.volume_layout.specs.Paths.{IsBlockId};
-ghost use Rattle.map_model.specs.Steps.{start_write, push, finish, read, delete};
+ghost use Rattle.map_model.specs.Steps.{start_write, push, finish, drop_write, read, delete};
 ghost use Rattle.pool_state.specs.Stands.{GoesOn};
 ghost use Rattle.dn_play.specs.State.{RunState};
-ghost use Rattle.dn_play.specs.Standing.{SessionStands, SoundFor, CarriesOut, LineCarried, IsOnBlock, faulty_of, mark_of};
+ghost use Rattle.dn_play.specs.Standing.{SessionStands, SoundFor, CarriesOut, LineCarried, is_on_block, faulty_of, mark_of};
 
 use crate::refusals::{delete_refusal_of, refusal_of};
 use crate::session::Session;
-use disk_model::PoolDisks;
+use disk_model::{Failed, PoolDisks};
 use pool_state::{ReadEnd, SealFault, read_all};
 use script_lang::Line;
 use script_lang::bytes::Bytes;
@@ -108,6 +108,26 @@ impl<D: PoolDisks> Session<D> {
         }
     }
 
+    /// Gives up a write: its files are removed.
+    pub fn drop_writer(&mut self, id: BlockId) -> Reply
+        requires stands { (state : RunState) × SessionStands D.worlds D.volume_count D.Draft.place D.Draft.bytes self.old state }
+        ensures step { (state : RunState) → SessionStands D.worlds D.volume_count D.Draft.place D.Draft.bytes self.old state →
+            CarriesOut (faulty_of D.Draft.place D.Draft.faults D.Reader.number D.Reader.faults) (D.worlds self.old.pool.disks)
+            state (mark_of D.faults D.next_number D.moment self.old.pool.disks) id drop_write result (mark_of D.faults D.next_number D.moment self.new.pool.disks)
+            (SessionStands D.worlds D.volume_count D.Draft.place D.Draft.bytes self.new)
+            (SoundFor D.worlds D.volume_count D.Draft.place D.Draft.bytes self.old) (SoundFor D.worlds D.volume_count D.Draft.place D.Draft.bytes self.new)
+            (D.left_since self.old.pool.disks) (D.left_since self.new.pool.disks) }
+        ensures goes_on { GoesOn D.worlds D.faults D.next_number D.moment D.volume_count self.old.pool.disks self.new.pool.disks }
+    {
+        let Some(writer) = self.writers.remove(id) else {
+            return Reply::NoWriter;
+        };
+        match self.pool.drop_write(writer) {
+            Ok(()) => Reply::Done,
+            Err(Failed) => Reply::Failed,
+        }
+    }
+
     /// Reads a replica.
     pub fn read(&mut self, alloc: Global, id: BlockId) -> Reply
         requires stands { (state : RunState) × SessionStands D.worlds D.volume_count D.Draft.place D.Draft.bytes self.old state }
@@ -157,7 +177,7 @@ impl<D: PoolDisks> Session<D> {
 
     /// Carries out the command of a line that asks for something on one block.
     pub fn carry_out(&mut self, alloc: Global, line: Line) -> Reply
-        requires command { IsOnBlock line }
+        requires command { is_on_block line ≡ true }
         requires stands { (state : RunState) × SessionStands D.worlds D.volume_count D.Draft.place D.Draft.bytes self.old state }
         ensures step { (state : RunState) → SessionStands D.worlds D.volume_count D.Draft.place D.Draft.bytes self.old state →
             LineCarried (faulty_of D.Draft.place D.Draft.faults D.Reader.number D.Reader.faults) (D.worlds self.old.pool.disks)
@@ -171,10 +191,11 @@ impl<D: PoolDisks> Session<D> {
             Line::Open { id, stamp, need } => self.open(alloc, id, stamp, need),
             Line::Push { id, hex } => self.push(id, hex.as_slice()),
             Line::Finish { id } => self.finish(id),
+            Line::Drop { id } => self.drop_writer(id),
             Line::Write { id, stamp, hex } => self.write(alloc, id, stamp, hex.as_slice()),
             Line::Read { id } => self.read(alloc, id),
             Line::Delete { id } => self.delete(id),
-            Line::Blank | Line::Reopen => Reply::Done,
+            _ => Reply::Done,
         }
     }
 }

@@ -19,4 +19,6 @@ mod writers;
 pub use playing::{Played, play};
 
 #[cfg(test)]
+mod crash_tests;
+#[cfg(test)]
 mod tests;

@@ -10,7 +10,7 @@ use std::alloc::{AllocError, Global};
 use std::process::Abort;
 use std::test::Fail;
 
-const WORDS: &str = "bp1 DN-1 DS-1:1000:v1";
+pub(crate) const WORDS: &str = "bp1 DN-1 DS-1:1000:v1";
 
 // The empty disks of one pool.
 #[tactic(auto, using(crate::proofs::OneDisk::holds_of_one))]
@@ -25,7 +25,7 @@ fn empty_disks(alloc: Global, volumes: u8) -> Result<Vec<PlainDisks>, AllocError
 }
 
 // The words of a line.
-fn words_of(alloc: Global, line: &str) -> Result<Vec<String>, AllocError> {
+pub(crate) fn words_of(alloc: Global, line: &str) -> Result<Vec<String>, AllocError> {
     let mut words = Vec::new(alloc);
     for word in line.split(' ') {
         words.push(String::from_str(alloc, word)?)?;
@@ -67,7 +67,25 @@ fn lines_are_answered_in_any_pieces(rt: HostRuntime) -> Result<(), Fail> {
         ),
         ("read 5\nraed 5\n", 5, "none\nend line 2 1\n"),
         ("\n# a comment\nread 5", 0, "none\n"),
-        ("read 5\nreopen\n", 8, "none\nend later 2\n"),
+        ("read 5\nsweep\n", 8, "none\nend later 2\n"),
+        ("sweep 1\n", 5, "end line 1 7\n"),
+        ("open 5 1001 x\n", 5, "end line 1 13\n"),
+        (
+            "open 5 1001 3\npush 5 6f\nreopen\nread 5\nopen 5 1001 3\ndelete 5\nread 5\n",
+            0,
+            "ok\nok\nok\nwaiting\nwaiting\nok\nnone\n",
+        ),
+        (
+            "write 5 1001 6f6c64\nopen 6 1 2\nreopen\npush 6 61\nreopen\nread 5\nread 6\nread 7\n",
+            0,
+            "ok\nok\nok\nnowriter\nok\ndata 1001 6f6c64\nwaiting\nnone\n",
+        ),
+        (
+            "write 5 1001 6f6c64\nwrite 5 1001 6f6c64\nopen 6 1 2\npush 6 616161\nread 6\ndrop 6\nread 6\npush 6 61\ndelete 6\n",
+            0,
+            "ok\nexists\nok\nover 2\nwriting\nok\nnone\nnowriter\nnone\n",
+        ),
+        ("drop 6\n", 0, "nowriter\n"),
         (
             "write 5 1001 68656c6c6f\nwrite 5 1002 61\nread 5\ndelete 5\nread 5\ndelete 5\n",
             0,
@@ -186,7 +204,7 @@ fn put_file(disk: &mut MemDisks, path: &str, bytes: &[u8]) -> Result<(), AllocEr
 
 // The only disks of a run.
 #[tactic(auto, using(crate::proofs::OneDisk::holds_of_one))]
-fn only(alloc: Global, disk: MemDisks) -> Result<Vec<MemDisks>, AllocError>
+pub(crate) fn only(alloc: Global, disk: MemDisks) -> Result<Vec<MemDisks>, AllocError>
     requires aside { InEachWorld (⟦<MemDisks as PoolDisks>⟧.worlds disk) DraftsAside }
     ensures aside { IfOk result (λ disks. All (λ d. InEachWorld (⟦<MemDisks as PoolDisks>⟧.worlds d) DraftsAside) disks.items) }
 {

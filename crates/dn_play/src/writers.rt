@@ -62,6 +62,15 @@ impl<D: PoolDisks> OpenWriters<D> {
         }
     }
 
+    /// Takes the open writer of a block, if it has one. It takes no memory.
+    pub fn remove(&mut self, id: BlockId) -> Option<Writing<D>>
+        ensures valid { IsBlockId id }
+        ensures found { result ≡ get nat_eq self.old.by_block id }
+        ensures taken { (other : ℕ) → get nat_eq self.new.by_block other ≡ (if other == id then None else get nat_eq self.old.by_block other) }
+    {
+        self.by_block.swap_remove(&id.get())
+    }
+
     /// Keeps a writer, for which there is a place.
     pub fn put(&mut self, writer: Writing<D>)
         requires room { 1 ≤ spare self.old.by_block }

@@ -74,7 +74,7 @@ module _ {Y : Type 0} where
     ])
   ]
 
-  finds : (es : List (String Y × Entry)) (path : List ℕ) → IsSome (lookup (λ k. is_eq (slice_cmp nat_cmp path (string_bytes k))) es) → Has es path
+  pub finds : (es : List (String Y × Entry)) (path : List ℕ) → IsSome (lookup (λ k. is_eq (slice_cmp nat_cmp path (string_bytes k))) es) → Has es path
   finds [] path some = absurd (cc some)
   finds (e ∷ es) path some = elim (cases_Bool (is_eq (slice_cmp nat_cmp path (string_bytes e.0)))) [
     | inl here ↦ inl (sym ((bytes_eq-Decides path (string_bytes e.0)).0 (sym (is_eq-slice_cmp path (string_bytes e.0)) ∙ here)))

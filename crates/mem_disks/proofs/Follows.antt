@@ -31,7 +31,7 @@ any_kept test keep keeps (x ∷ xs) some = elim (cases_Bool (test x)) [
 ]
 
 -- the drafts at a place, after those at another place were taken away
-kept_drafts : (v : ℕ) (p : List ℕ) (vol : ℕ) (path : List ℕ) (drafts : List DraftPlace)
+pub kept_drafts : (v : ℕ) (p : List ℕ) (vol : ℕ) (path : List ℕ) (drafts : List DraftPlace)
     → list_any (stands_at vol path) (filter (λ draft. not (stands_at v p draft)) drafts) ≡ (if is_place v p vol path then false else list_any (stands_at vol path) drafts)
 kept_drafts v p vol path drafts = elim (cases_Bool (is_place v p vol path)) [
   | inl here ↦ rw here (

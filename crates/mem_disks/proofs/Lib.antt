@@ -3,3 +3,5 @@ pub mod Follows
 pub mod Within
 pub mod Directory
 pub mod Listings
+pub mod Remains
+pub mod Bare

@@ -4,3 +4,4 @@ pub mod HistoryLaws
 pub mod Entries
 pub mod Standing
 pub mod Listing
+pub mod Images

@@ -1,10 +1,12 @@
 //! The disks of one block pool, in memory.
-ghost use Rattle.std.specs.Prelude.{◌≡◌, ◌+◌, ◌-◌, ◌^◌, ◌<◌, ◌≤◌, [], ◌∷◌, length, Some, None, List, ℕ, true, false, IfOk, OnOk, OnErr, option_map, string_bytes};
-ghost use Rattle.disk_model.specs.Worlds.{draft_at, created, removed, settled_at, published};
-ghost use Rattle.disk_model.specs.Told.{CanLeave, PicksOne, StandsBeforeOrAfter};
+ghost use Rattle.std.specs.Prelude.{◌≡◌, ◌+◌, ◌-◌, ◌^◌, ◌<◌, ◌≤◌, [], ◌∷◌, length, Some, None, List, ℕ, true, false, IfOk, OnOk, OnErr, option_map, string_bytes, replicate, min};
+ghost use Rattle.disk_model.specs.Files.{Files};
+ghost use Rattle.disk_model.specs.Worlds.{World, draft_at, created, removed, settled_at, published};
+ghost use Rattle.disk_model.specs.Told.{CanLeave, IsFresh, PicksOne, StandsBeforeOrAfter};
 ghost use Rattle.disk_model.specs.Moments.{Elapses};
 ghost use Rattle.disk_model.specs.Causes.{Rose, GivesAtMostOne};
 ghost use Rattle.mem_disks.specs.History.{empty_world, changed, told, HoldsFirst, moment_of, LeftSince, numbers_end, IsOnVolume, Opens};
+ghost use Rattle.mem_disks.specs.Images.{left_of, only_files, counted};
 ghost use Rattle.mem_disks.specs.HistoryLaws.{history_is_disk, history_within, history_counts_now, history_only_now};
 
 use crate::drafts::{MemDraft, MemReader, MemSealed};
@@ -26,11 +28,13 @@ pub struct MemDisks {
     faults: u64,
     absences: u64,
     lacks: u64,
+    ghost counted: { lacks ≤ faults },
 }
 
 // One more, where there was no memory.
 fn more_if_err(count: u64, outcome: Result<(), AllocError>) -> u64
     ensures rose { OnErr outcome (Rose count result) }
+    ensures most { OnErr outcome (result ≤ min (count + 1) (2 ^ 64 - 1)) }
     ensures same { OnOk outcome (result ≡ count) }
 {
     match outcome {
@@ -69,11 +73,7 @@ impl MemDisks {
         ensures numbers { ⟦<MemDisks as PoolDisks>⟧.next_number self.new ≡ ⟦<MemDisks as PoolDisks>⟧.next_number self.old }
         ensures volumes { ⟦<MemDisks as PoolDisks>⟧.volume_count self.new ≡ ⟦<MemDisks as PoolDisks>⟧.volume_count self.old }
     {
-        let path = String::from_str(self.store.alloc, path)?;
-        let bytes = bytes.to_vec(self.store.alloc)?;
-        let next_number = self.store.next_number;
-        self.store
-            .carry_out(Change::Put { vol, path, bytes }, next_number)
+        self.store.put(vol, path, bytes)
     }
 
     /// One more rule, which counts calls since the disks were made. Drafts and readers that are made already don't
@@ -99,6 +99,36 @@ impl MemDisks {
         }
     }
 
+    /// Fresh disks without rules, as an image that is opened again: what a crash leaves of these disks, with `len` bytes
+    /// of `fill` at the path of each draft. Where a call is open it counts as done or not, and each later call that failed
+    /// since then as not done.
+    pub fn image(
+        &self,
+        alloc: Global,
+        done: bool,
+        fill: u8,
+        len: u64,
+    ) -> Result<MemDisks, AllocError>
+        // Of the worlds that are told, the first is the one where no open call was done.
+        ensures image { IfOk result (λ disks. (world : World) (others : List World) → ⟦<MemDisks as PoolDisks>⟧.worlds self.now ≡ Some (world ∷ others)
+            → ⟦<MemDisks as PoolDisks>⟧.worlds disks ≡ Some (only_files (left_of (counted done world others) (replicate len fill)))) }
+        ensures can_leave { IfOk result (λ disks. (files : Files) → ⟦<MemDisks as PoolDisks>⟧.worlds disks ≡ Some (only_files files) → CanLeave (⟦<MemDisks as PoolDisks>⟧.worlds self.now) files) }
+        ensures fresh { IfOk result (λ disks. IsFresh (⟦<MemDisks as PoolDisks>⟧.worlds disks)) }
+        ensures faults { IfOk result (λ disks. ⟦<MemDisks as PoolDisks>⟧.faults disks ≡ 0) }
+        ensures absences { IfOk result (λ disks. ⟦<MemDisks as PoolDisks>⟧.absences disks ≡ 0) }
+        ensures numbers { IfOk result (λ disks. ⟦<MemDisks as PoolDisks>⟧.next_number disks ≡ 0) }
+        ensures volumes { IfOk result (λ disks. ⟦<MemDisks as PoolDisks>⟧.volume_count disks ≡ ⟦<MemDisks as PoolDisks>⟧.volume_count self.now) }
+    {
+        let filling = vec![in alloc; fill; len as usize]?;
+        Ok(MemDisks {
+            store: self.store.image(alloc, done, &filling)?,
+            rules: Rules::none(alloc),
+            faults: 0,
+            absences: 0,
+            lacks: 0,
+        })
+    }
+
     /// How often the disks failed.
     pub fn faults(&self) -> u64
         ensures { result ≡ ⟦<MemDisks as PoolDisks>⟧.faults self.now }
@@ -107,7 +137,9 @@ impl MemDisks {
     }
 
     /// How often a call that has no answer for want of memory found none for its own record, and failed.
-    pub fn lacks(&self) -> u64 {
+    pub fn lacks(&self) -> u64
+        ensures { result ≤ ⟦<MemDisks as PoolDisks>⟧.faults self.now }
+    {
         self.lacks
     }
 

@@ -4,6 +4,7 @@
 mod disks;
 mod drafts;
 mod history;
+mod images;
 mod listing;
 mod rules;
 mod shelves;

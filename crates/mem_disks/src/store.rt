@@ -160,6 +160,23 @@ impl Store {
         Ok(())
     }
 
+    /// Settles a file from outside. Want of memory changes nothing.
+    pub fn put(&mut self, vol: u8, path: &str, bytes: &[u8]) -> Result<(), AllocError>
+        requires low { 1 ≤ vol }
+        requires high { vol ≤ self.old.volume_count }
+        ensures ok { OnOk result (Records true (settled_at vol path.now bytes.now) self.old.records.items self.new.records.items) }
+        ensures closed { OnOk result (self.new.is_open ≡ false) }
+        ensures picks { OnOk result (PicksOne (λ world. Unit {0}) (settled_at vol path.now bytes.now) (Some (told self.old.is_open self.old.records.items)) (Some (told self.new.is_open self.new.records.items))) }
+        ensures err { OnErr result (Stays self.old.records.items self.new.records.items self.old.is_open self.new.is_open self.old.next_number self.new.next_number) }
+        ensures numbers { self.new.next_number ≡ self.old.next_number }
+        ensures volumes { self.new.volume_count ≡ self.old.volume_count }
+    {
+        let path = String::from_str(self.alloc, path)?;
+        let bytes = bytes.to_vec(self.alloc)?;
+        let next_number = self.next_number;
+        self.carry_out(Change::Put { vol, path, bytes }, next_number)
+    }
+
     /// The call of a change failed: it is open, unless an earlier one is. Want of memory changes nothing.
     pub fn leave_open(&mut self, change: Change, next_number: u64) -> Result<(), AllocError>
         requires placed { IsOnVolume self.old.volume_count change }

@@ -137,3 +137,92 @@ fn readers_fail_in_the_order_of_their_lending(rt: HostRuntime) -> Result<(), Fai
     assert_eq!(rt; first.read(0, &mut out), Err(Failed));
     Ok(())
 }
+
+// Puts a file on disks without drafts.
+fn put_file(disks: &mut MemDisks, vol: u8, path: &str, bytes: &[u8]) -> Result<(), AllocError>
+    requires low { 1 ≤ vol }
+    requires high { vol ≤ ⟦<MemDisks as PoolDisks>⟧.volume_count disks.old }
+    requires bare { InEachWorld (⟦<MemDisks as PoolDisks>⟧.worlds disks.old) (λ world. world.drafts ≡ []) }
+    ensures volumes { ⟦<MemDisks as PoolDisks>⟧.volume_count disks.new ≡ ⟦<MemDisks as PoolDisks>⟧.volume_count disks.old }
+    ensures bare { OnOk result (InEachWorld (⟦<MemDisks as PoolDisks>⟧.worlds disks.new) (λ world. world.drafts ≡ [])) }
+{
+    match disks.put(vol, path, bytes) {
+        Ok(()) => Ok(()),
+        Err(fault) => Err(fault),
+    }
+}
+
+// Disks of two volumes with a file on each, which fail from the first call of this kind on.
+fn failing_with_files(alloc: Global, call: Call, forever: bool) -> Result<MemDisks, AllocError>
+    ensures volumes { IfOk result (λ disks. ⟦<MemDisks as PoolDisks>⟧.volume_count disks ≡ 2) }
+    ensures bare { IfOk result (λ disks. InEachWorld (⟦<MemDisks as PoolDisks>⟧.worlds disks) (λ world. world.drafts ≡ [])) }
+{
+    let mut disks = MemDisks::empty(alloc, 2)?;
+    put_file(&mut disks, 2, "b", b"there")?;
+    put_file(&mut disks, 1, "a", b"hi")?;
+    disks.fail(FailRule {
+        call,
+        nth: 1,
+        forever,
+    })?;
+    Ok(disks)
+}
+
+// Disks on which the first call of this kind failed, on the file of volume 1, and all calls from then on.
+fn crashed(alloc: Global, call: Call) -> Result<MemDisks, AllocError>
+    ensures volumes { IfOk result (λ disks. ⟦<MemDisks as PoolDisks>⟧.volume_count disks ≡ 2) }
+{
+    let mut disks = failing_with_files(alloc, call, true)?;
+    match call {
+        Call::Create => drop(disks.create(alloc, 1, "a")),
+        Call::Publish => drop(write_file(alloc, &mut disks, 1, "tmp/draft", "a", b"new")),
+        _ => drop(disks.remove(1, "a")),
+    }
+    Ok(disks)
+}
+
+#[test]
+fn images_count_the_open_call_as_done_or_not(rt: HostRuntime) -> Result<(), Fail> {
+    let alloc = rt.alloc();
+    let old = Some(b"hi".as_slice());
+    let new = Some(b"new".as_slice());
+    let filled = Some(b"xxx".as_slice());
+    for (call, done, file, draft) in [
+        (Call::Create, false, old, None),
+        (Call::Create, true, filled, None),
+        (Call::Publish, false, old, filled),
+        (Call::Publish, true, new, None),
+        (Call::Remove, false, old, None),
+        (Call::Remove, true, None, None),
+    ] {
+        let disks = crashed(alloc, call)?;
+        assert_eq!(rt; disks.faults(), 1, "of {call:?}");
+        assert_eq!(rt; disks.image(alloc, done, 0, u64::MAX).is_err(), true);
+        let mut image = disks.image(alloc, done, b'x', 3)?;
+        assert_eq!(rt; image.bytes(1, "a"), file, "of {call:?} {done}");
+        assert_eq!(rt; image.bytes(1, "tmp/draft"), draft, "of {call:?} {done}");
+        assert_eq!(rt; image.bytes(2, "b"), Some(b"there".as_slice()));
+        assert_eq!(rt; image.faults(), 0);
+        assert_eq!(rt; disks.bytes(1, "a"), old);
+        assert_eq!(rt; disks.faults(), 1);
+        assert_eq!(rt; image.remove(1, "a"), Ok(()));
+    }
+    Ok(())
+}
+
+#[test]
+fn images_count_later_calls_as_not_done(rt: HostRuntime) -> Result<(), Fail> {
+    let alloc = rt.alloc();
+    let mut disks = failing_with_files(alloc, Call::Remove, true)?;
+    assert_eq!(rt; disks.remove(1, "a"), Err(Failed));
+    assert_eq!(rt; disks.remove(2, "b"), Err(Failed));
+    let image = disks.image(alloc, true, b'x', 3)?;
+    assert_eq!(rt; image.bytes(1, "a"), None);
+    assert_eq!(rt; image.bytes(2, "b"), Some(b"there".as_slice()));
+    let mut disks = failing_with_files(alloc, Call::Remove, false)?;
+    assert_eq!(rt; disks.remove(1, "a"), Err(Failed));
+    assert_eq!(rt; disks.size(1, "c"), Ok(None));
+    let image = disks.image(alloc, true, b'x', 3)?;
+    assert_eq!(rt; image.bytes(1, "a"), Some(b"hi".as_slice()));
+    Ok(())
+}

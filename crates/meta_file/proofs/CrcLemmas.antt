@@ -4,8 +4,11 @@ use Rattle.std.specs.Prelude.{bit_xor, bit_and}
 use Rattle.std.specs.Int.Bits.{xor_self, xor_assoc, xor_zero_r}
 use Rattle.std.proofs.Math.Nat.{pow-suc}
 use Rattle.std.proofs.lemmas.Nat.{xor_comm, xor_shr, xor_mod, xor_block, and_mask, shr_split, pow_pos, mod_below}
+use Rattle.std.proofs.Math.Seq.{take-add}
+use Rattle.std.proofs.lemmas.List.{take-take, take_all, take-append-drop, length-drop}
+use Rattle.std.proofs.lemmas.List.Sums.{fold-append}
 use Rattle.byteorder.specs.Endian.{little_from}
-use Rattle.meta_file.specs.Tables.{half_with, bit_step, bit_steps, IsTable, AreTables, after}
+use Rattle.meta_file.specs.Tables.{half_with, bit_step, bit_steps, IsTable, AreTables, after, byte_step}
 
 half_with-xor : (p i j x y : ℕ) → i < 2 → j < 2
     → half_with p (bit_xor i j) (bit_xor x y) ≡ bit_xor (half_with p i x) (half_with p j y)
@@ -201,3 +204,24 @@ eight_rows p x t filled fits =
     (first_row p t filled (x / 72057594037927936) top ∙ ap (bit_steps p 8) e1)
     ∙ ap (bit_steps p 16) e2) ∙ ap (bit_steps p 24) e3) ∙ ap (bit_steps p 32) e4) ∙ ap (bit_steps p 40) e5)
     ∙ ap (bit_steps p 48) e6) ∙ refl)
+
+-- eight bytes more
+pub eight_more : (poly start state next at : ℕ) (bytes : List ℕ) → 8 ≤ length bytes - at
+    → state ≡ after poly start (take at bytes) → next ≡ after poly state (take 8 (take (length bytes - at) (drop at bytes)))
+    → next ≡ after poly start (take (at + 8) bytes)
+eight_more poly start state next at bytes fits is more =
+    let rest = drop at bytes in
+    let first : take 8 (take (length bytes - at) rest) ≡ take 8 rest = take-take 8 (length bytes - at) rest fits in
+    more ∙ ap (after poly state) first ∙ ap (λ s. after poly s (take 8 rest)) is
+    ∙ sym (ap (after poly start) (take-add at 8 bytes) ∙ fold-append (byte_step poly) start (take at bytes) (take 8 rest))
+
+-- the rest
+pub rest_more : (poly start state last at : ℕ) (bytes : List ℕ)
+    → state ≡ after poly start (take at bytes) → last ≡ after poly state (take (length bytes - at) (drop at bytes))
+    → last ≡ after poly start bytes
+rest_more poly start state last at bytes is more =
+    let rest = drop at bytes in
+    let all : take (length bytes - at) rest ≡ rest = take_all (length bytes - at) rest (omega (arith, length-drop at bytes)) in
+    more ∙ ap (after poly state) all ∙ ap (λ s. after poly s rest) is
+    ∙ sym (fold-append (byte_step poly) start (take at bytes) rest)
+    ∙ ap (after poly start) (take-append-drop at bytes)

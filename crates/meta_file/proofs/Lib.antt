@@ -1,3 +1,4 @@
 pub mod CrcLemmas
 pub mod HeaderLemmas
 pub mod SumLemmas
+pub mod VerdictLemmas

@@ -1,13 +1,13 @@
 -- A register that goes on, a chunk that is full, and the last chunk.
-use Rattle.std.proofs.Common.{◌≡◌, ℕ, zero, suc, ◌+◌, ◌-◌, ◌*◌, ◌/◌, ◌<◌, ◌≤◌, List, [], ◌∷◌, ◌++◌, length, take, drop, refl, sym, ap, subst, ◌∙◌, arith, length-append, length-drop, append_assoc, below_more}
+use Rattle.std.proofs.Common.{◌≡◌, ℕ, zero, suc, ◌+◌, ◌-◌, ◌*◌, ◌/◌, ◌%◌, ◌<◌, ◌≤◌, List, [], ◌∷◌, ◌++◌, length, take, drop, refl, sym, ap, subst, ◌∙◌, arith, length-append, length-drop, append_assoc, below_more}
 use Rattle.std.specs.Prelude.{bit_xor}
-use Rattle.std.proofs.Math.Nat.{mul-le-mul_left}
-use Rattle.std.proofs.Math.Seq.{drop-append_seam}
-use Rattle.std.proofs.lemmas.Nat.{div-mul-add}
-use Rattle.std.proofs.lemmas.List.{take_all, take-append-le, drop-append-le, drop_all, append-nil}
+use Rattle.std.proofs.Math.Nat.{mul-le-mul_left, add-div_left, add-mod_left, mul-add-div_right}
+use Rattle.std.proofs.Math.Seq.{drop-append_seam, take-append-add}
+use Rattle.std.proofs.lemmas.Nat.{div-mul-add, div-add-mod'}
+use Rattle.std.proofs.lemmas.List.{length-take-le, take_all, take-append-le, drop-append-le, drop_all, append-nil}
 use Rattle.map_model.specs.Checksums.{crc, crc_byte, crc_from, big_endian, chunk_count, HasSums}
 use Rattle.meta_file.specs.Tables.{after, bit_step, bit_steps, byte_step}
-use Rattle.meta_file.specs.Sums.{Progress, polynomial, HasSummed, Summed, Adds, Completes}
+use Rattle.meta_file.specs.Sums.{Progress, polynomial, HasSummed, Summed, Gives, Ends, Adds}
 
 -- eight bits at once are a byte
 crc_byte-steps : (poly sum byte : ℕ) → byte_step poly sum byte ≡ crc_byte poly sum byte
@@ -114,80 +114,102 @@ whole poly p sums bytes h none some =
       each = λ chunk below. h.each chunk (omega (arith, chunks, below));
     }
 
+-- the checksums of a batch and of what is behind it are those of both
+pub batch_rest : (filled len all step : ℕ) → 0 < step → len ≤ all
+    → (filled + len) / step + ((filled + len) % step + (all - len)) / step ≡ (filled + all) / step
+batch_rest filled len all step some few =
+    let whole = div-add-mod' (filled + len) step in
+    let parts : filled + all ≡ (filled + len) / step * step + ((filled + len) % step + (all - len)) = omega (arith, whole) in
+    sym (ap (λ (n : ℕ). n / step) parts ∙ mul-add-div_right some ((filled + len) / step) ((filled + len) % step + (all - len)))
+
+-- what is written behind a front
+pub take_put : (place k : ℕ) (out new rest : List ℕ) → place ≤ length out → k ≤ length new
+    → take (place + k) (take place out ++ (new ++ rest)) ≡ take place out ++ take k new
+take_put place k out new rest inside within =
+    let full : length (take place out) ≡ place = length-take-le place out inside in
+    ap (λ (n : ℕ). take (n + k) (take place out ++ (new ++ rest))) (sym full)
+    ∙ take-append-add (take place out) (new ++ rest) k
+    ∙ ap (λ (p : List ℕ). take place out ++ p) (take-append-le k new rest within)
+
+-- the end of a chunk, and what is behind it
+pub next_chunk : (filled len step rest : ℕ) → 0 < step → filled + len ≡ step + rest → (filled + len) / step ≡ rest / step + 1
+next_chunk filled len step rest some same = ap (λ n. n / step) same ∙ add-div_left rest some
+
+pub next_filled : (filled len step rest : ℕ) → filled + len ≡ step + rest → (filled + len) % step ≡ rest % step
+next_filled filled len step rest same = ap (λ n. n % step) same ∙ add-mod_left step rest
+
 -- a summer that takes in a piece of a chunk
-pub Adds-more : (kind step filled register poly after_it : ℕ) (piece before : List ℕ) → 0 < kind → poly ≡ polynomial kind
+pub Gives-more : (kind step filled register poly after_it : ℕ) (piece : List ℕ) → 0 < kind → poly ≡ polynomial kind
     → after_it ≡ after poly register piece
-    → Adds (record { kind = kind; step = step; filled = filled; register = register })
-    (record { kind = kind; step = step; filled = filled + length piece; register = after_it }) piece before before
-Adds-more zero step filled register poly after_it piece before some is_poly is_after = absurd (omega arith)
-Adds-more (suc kind) step filled register poly after_it piece before some is_poly is_after =
+    → Gives (record { kind = kind; step = step; filled = filled; register = register })
+    (record { kind = kind; step = step; filled = filled + length piece; register = after_it }) piece []
+Gives-more zero step filled register poly after_it piece some is_poly is_after = absurd (omega arith)
+Gives-more (suc kind) step filled register poly after_it piece some is_poly is_after =
     let p : Progress = record { kind = suc kind; step = step; filled = filled; register = register } in
     let goes : after_it ≡ crc_from (polynomial (suc kind)) register piece =
     is_after ∙ after-crc_from poly register piece ∙ ap (λ q. crc_from q register piece) is_poly
-    in (
-      [],
-      sym (append-nil before),
-      λ sums bytes h.
-          subst (λ (s : List ℕ). HasSummed (polynomial (suc kind)) (record { kind = suc kind; step = step; filled = filled + length piece; register = after_it }) s (bytes ++ piece)) (sym (append-nil sums))
-          (subst (λ (r : ℕ). HasSummed (polynomial (suc kind)) (record { kind = suc kind; step = step; filled = filled + length piece; register = r }) sums (bytes ++ piece)) (sym goes)
-          (more (polynomial (suc kind)) p sums bytes piece h)),
-    )
+    in
+    λ sums bytes h.
+    subst (λ (s : List ℕ). HasSummed (polynomial (suc kind)) (record { kind = suc kind; step = step; filled = filled + length piece; register = after_it }) s (bytes ++ piece)) (sym (append-nil sums))
+    (subst (λ (r : ℕ). HasSummed (polynomial (suc kind)) (record { kind = suc kind; step = step; filled = filled + length piece; register = r }) sums (bytes ++ piece)) (sym goes)
+    (more (polynomial (suc kind)) p sums bytes piece h))
 
 -- a summer that takes in the end of a chunk
-pub Adds-closed : (kind step filled register poly after_it : ℕ) (piece before sum : List ℕ) → 0 < kind → poly ≡ polynomial kind
+pub Gives-closed : (kind step filled register poly after_it : ℕ) (piece sum : List ℕ) → 0 < kind → poly ≡ polynomial kind
     → after_it ≡ after poly register piece → filled + length piece ≡ step
     → length sum ≡ 4 → big_endian 0 sum ≡ bit_xor after_it 0xffff_ffff
-    → Adds (record { kind = kind; step = step; filled = filled; register = register })
-    (record { kind = kind; step = step; filled = 0; register = 0xffff_ffff }) piece before (before ++ sum)
-Adds-closed zero step filled register poly after_it piece before sum some is_poly is_after full four is = absurd (omega arith)
-Adds-closed (suc kind) step filled register poly after_it piece before sum some is_poly is_after full four is =
+    → Gives (record { kind = kind; step = step; filled = filled; register = register })
+    (record { kind = kind; step = step; filled = 0; register = 0xffff_ffff }) piece sum
+Gives-closed zero step filled register poly after_it piece sum some is_poly is_after full four is = absurd (omega arith)
+Gives-closed (suc kind) step filled register poly after_it piece sum some is_poly is_after full four is =
     let p : Progress = record { kind = suc kind; step = step; filled = filled; register = register } in
     let q : Progress = record { kind = suc kind; step = step; filled = filled + length piece; register = crc_from (polynomial (suc kind)) register piece } in
     let goes : after_it ≡ crc_from (polynomial (suc kind)) register piece =
     is_after ∙ after-crc_from poly register piece ∙ ap (λ q. crc_from q register piece) is_poly
-    in (
-      sum,
-      refl,
-      λ sums bytes h.
-          closed (polynomial (suc kind)) q sums (bytes ++ piece) sum (more (polynomial (suc kind)) p sums bytes piece h) full four
-          (is ∙ ap (λ r. bit_xor r 0xffff_ffff) goes),
-    )
+    in
+    λ sums bytes h.
+    closed (polynomial (suc kind)) q sums (bytes ++ piece) sum (more (polynomial (suc kind)) p sums bytes piece h) full four
+    (is ∙ ap (λ r. bit_xor r 0xffff_ffff) goes)
+
+-- nothing is taken in
+pub Gives-none : (p : Progress) → Gives p p [] []
+Gives-none p = λ sums bytes h.
+    subst (λ (s : List ℕ). Summed p s (bytes ++ [])) (sym (append-nil sums))
+    (subst (λ (b : List ℕ). Summed p sums b) (sym (append-nil bytes)) h)
 
 -- one piece after another
+pub Gives-again : (p q r : Progress) (piece next added more_added : List ℕ) → Gives p q piece added → Gives q r next more_added
+    → Gives p r (piece ++ next) (added ++ more_added)
+Gives-again p q r piece next added more_added first second = λ sums bytes h.
+    subst (λ (s : List ℕ). Summed r s (bytes ++ (piece ++ next))) (append_assoc sums added more_added)
+    (subst (λ (b : List ℕ). Summed r ((sums ++ added) ++ more_added) b) (append_assoc bytes piece next)
+    (second (sums ++ added) (bytes ++ piece) (first sums bytes h)))
+
 pub Adds-again : (p q r : Progress) (piece next before now later : List ℕ) → Adds p q piece before now → Adds q r next now later
     → Adds p r (piece ++ next) before later
 Adds-again p q r piece next before now later first second = (
   first.0 ++ second.0,
   second.1 ∙ ap (λ s. s ++ second.0) first.1 ∙ append_assoc before first.0 second.0,
-  λ sums bytes h.
-      subst (λ (s : List ℕ). Summed r s (bytes ++ (piece ++ next))) (append_assoc sums first.0 second.0)
-      (subst (λ (b : List ℕ). Summed r ((sums ++ first.0) ++ second.0) b) (append_assoc bytes piece next)
-      (second.2 (sums ++ first.0) (bytes ++ piece) (first.2 sums bytes h))),
+  Gives-again p q r piece next first.0 second.0 first.2 second.2,
 )
 
 -- the last chunk of a summer
-pub Completes-last : (kind step filled register : ℕ) (before sum : List ℕ) → 0 < kind → 0 < filled → filled < step
+pub Ends-last : (kind step filled register : ℕ) (sum : List ℕ) → 0 < kind → 0 < filled → filled < step
     → length sum ≡ 4 → big_endian 0 sum ≡ bit_xor register 0xffff_ffff
-    → Completes (record { kind = kind; step = step; filled = filled; register = register }) before (before ++ sum)
-Completes-last zero step filled register before sum known some few four is = absurd (omega arith)
-Completes-last (suc zero) step filled register before sum known some few four is =
-    (sum, refl, λ sums bytes h. completed (polynomial 1) (record { kind = 1; step = step; filled = filled; register = register }) sums bytes sum h some few four is)
-Completes-last (suc (suc kind)) step filled register before sum known some few four is =
-    (sum, refl, λ sums bytes h. completed (polynomial (suc (suc kind))) (record { kind = suc (suc kind); step = step; filled = filled; register = register }) sums bytes sum h some few four is)
+    → Ends (record { kind = kind; step = step; filled = filled; register = register }) sum
+Ends-last zero step filled register sum known some few four is = absurd (omega arith)
+Ends-last (suc zero) step filled register sum known some few four is =
+    λ sums bytes h. completed (polynomial 1) (record { kind = 1; step = step; filled = filled; register = register }) sums bytes sum h some few four is
+Ends-last (suc (suc kind)) step filled register sum known some few four is =
+    λ sums bytes h. completed (polynomial (suc (suc kind))) (record { kind = suc (suc kind); step = step; filled = filled; register = register }) sums bytes sum h some few four is
 
 -- a summer of no checksums, or without a last chunk
-pub Completes-whole : (kind step filled register : ℕ) (before : List ℕ) → filled < step → (0 < kind → filled ≡ 0)
-    → Completes (record { kind = kind; step = step; filled = filled; register = register }) before before
-Completes-whole zero step filled register before few none = ([], sym (append-nil before), λ sums bytes h. tt)
-Completes-whole (suc zero) step filled register before few none = (
-  [],
-  sym (append-nil before),
-  λ sums bytes h. subst (λ (s : List ℕ). HasSums (polynomial 1) step s bytes) (sym (append-nil sums))
-      (whole (polynomial 1) (record { kind = 1; step = step; filled = filled; register = register }) sums bytes h (none (omega arith)) (omega arith)),
-)
-Completes-whole (suc (suc kind)) step filled register before few none = (
-  [],
-  sym (append-nil before),
-  λ sums bytes h. subst (λ (s : List ℕ). HasSums (polynomial (suc (suc kind))) step s bytes) (sym (append-nil sums))
-      (whole (polynomial (suc (suc kind))) (record { kind = suc (suc kind); step = step; filled = filled; register = register }) sums bytes h (none (omega arith)) (omega arith)),
-)
+pub Ends-whole : (kind step filled register : ℕ) → filled < step → (0 < kind → filled ≡ 0)
+    → Ends (record { kind = kind; step = step; filled = filled; register = register }) []
+Ends-whole zero step filled register few none = λ sums bytes h. tt
+Ends-whole (suc zero) step filled register few none =
+    λ sums bytes h. subst (λ (s : List ℕ). HasSums (polynomial 1) step s bytes) (sym (append-nil sums))
+    (whole (polynomial 1) (record { kind = 1; step = step; filled = filled; register = register }) sums bytes h (none (omega arith)) (omega arith))
+Ends-whole (suc (suc kind)) step filled register few none =
+    λ sums bytes h. subst (λ (s : List ℕ). HasSums (polynomial (suc (suc kind))) step s bytes) (sym (append-nil sums))
+    (whole (polynomial (suc (suc kind))) (record { kind = suc (suc kind); step = step; filled = filled; register = register }) sums bytes h (none (omega arith)) (omega arith))

@@ -1,3 +1,4 @@
 pub mod Tables
 pub mod Headers
 pub mod Sums
+pub mod Verdicts

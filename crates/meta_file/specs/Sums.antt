@@ -32,14 +32,18 @@ SummedBy (suc kind) p sums bytes = HasSummed (polynomial (suc kind)) p sums byte
 abbrev pub Summed : Progress → List ℕ → List ℕ → Type 0
 Summed p sums bytes = SummedBy p.kind p sums bytes
 
--- what was added to `before` are the checksums that a piece completed, whatever came in before it
+-- these are the checksums that a piece completed, whatever came in before it
+abbrev pub Gives : Progress → Progress → List ℕ → List ℕ → Type 0
+Gives old new piece added = (sums bytes : List ℕ) → Summed old sums bytes → Summed new (sums ++ added) (bytes ++ piece)
+
+-- these are the checksums that the bytes still lacked
+abbrev pub Ends : Progress → List ℕ → Type 0
+Ends p added = (sums bytes : List ℕ) → Summed p sums bytes → SumsMatch p.kind p.step (sums ++ added) bytes
+
+-- what was added to `before` are the checksums that a piece completed
 abbrev pub Adds : Progress → Progress → List ℕ → List ℕ → List ℕ → Type 0
-Adds old new piece before now =
-    (added : List ℕ) × (now ≡ before ++ added)
-    × ((sums bytes : List ℕ) → Summed old sums bytes → Summed new (sums ++ added) (bytes ++ piece))
+Adds old new piece before now = (added : List ℕ) × (now ≡ before ++ added) × Gives old new piece added
 
 -- what was added to `before` are the checksums that the bytes still lacked
 abbrev pub Completes : Progress → List ℕ → List ℕ → Type 0
-Completes p before now =
-    (added : List ℕ) × (now ≡ before ++ added)
-    × ((sums bytes : List ℕ) → Summed p sums bytes → SumsMatch p.kind p.step (sums ++ added) bytes)
+Completes p before now = (added : List ℕ) × (now ≡ before ++ added) × Ends p added

@@ -89,4 +89,24 @@ impl Tables {
         }
         state
     }
+
+    /// The registers after two pieces of the same length, side by side.
+    pub fn update_two(&self, first: u32, second: u32, one: &[u8], other: &[u8]) -> (u32, u32)
+        requires { length one.now ≡ length other.now }
+        ensures first { result.0 ≡ after self.now.poly first one.now }
+        ensures second { result.1 ≡ after self.now.poly second other.now }
+    {
+        let mut first = first;
+        let mut second = second;
+        let mut at = 0;
+        while one.len() - at >= 8 {
+            first = self.eight_bytes(first, &one[at..]);
+            second = self.eight_bytes(second, &other[at..]);
+            at += 8;
+        }
+        (
+            self.update(first, &one[at..]),
+            self.update(second, &other[at..]),
+        )
+    }
 }

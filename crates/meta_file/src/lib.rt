@@ -2,13 +2,15 @@
 #![tactic(auto)]
 
 mod crc;
+mod difference;
 mod header;
 mod summer;
 mod verdict;
 
+pub use difference::{Difference, first_difference};
 pub use header::{Header, MetaFault, read_header, write_header};
 pub use summer::Summer;
-pub use verdict::Verdict;
+pub use verdict::{Verdict, whole_is_match};
 
 #[cfg(test)]
 mod tests;

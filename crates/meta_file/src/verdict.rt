@@ -1,4 +1,6 @@
 //! What a check of a replica answers.
+ghost use Rattle.meta_file.specs.Verdicts.{WholeIsMatch};
+
 use crate::header::MetaFault;
 
 /// What a check of a replica answers: the first of these that applies, in this order of decision: `Meta`, `Count`,
@@ -26,3 +28,8 @@ pub enum Verdict {
     /// The header has a fault.
     Meta(MetaFault),
 }
+
+/// The verdict is `Whole` exactly where the meta file matches the block.
+pub fn whole_is_match()
+    ensures { WholeIsMatch }
+{}

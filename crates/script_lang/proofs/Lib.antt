@@ -1,4 +1,6 @@
 pub mod WordLemmas
+pub mod FieldLemmas
+pub mod TableLemmas
 pub mod NumberLemmas
 pub mod TextLists
 pub mod Volumes

@@ -1,7 +1,8 @@
-use Rattle.std.proofs.Common.{ap, ◌∙◌, subst, refl, Ok, Err}
+use Rattle.std.proofs.Common.{ap, ◌∙◌, sym, subst, refl, Ok, Err}
+use Rattle.script_lang.specs.declared.LineFault.TheVariants.{Bad}
 use Rattle.std.specs.Io.KnownBytes.{Appends}
 use Rattle.line_io.specs.Written.{AppendsFront}
-use Rattle.dn_play.proofs.Answering.{is_command, unanswered_less, unanswered_reopen, told_ok, told_bad, told_later, answered_blank, answered_command, unanswered_outside, unanswered_later, unanswered_unread, unanswered_unshown, unanswered_cut}
+use Rattle.dn_play.proofs.Answering.{not_blank, unanswered_less, unanswered_reopen, told_ok, told_bad, answered_blank, answered_command, unanswered_outside, unanswered_later, unanswered_unread, unanswered_unshown, unanswered_cut}
 use Rattle.dn_play.proofs.Crashes.{now_allowed, leaves_safe}
 use Rattle.dn_play.specs.Standing.{SessionStands}
 use Rattle.dn_play.proofs.answer.answer.Goals as goal
@@ -9,13 +10,8 @@ use Rattle.dn_play.proofs.answer.answer.Goals as goal
 pub returns-in-Err-Bad-clause-err : goal.returns-in-Err-Bad-clause-err
 returns-in-Err-Bad-clause-err g c state standing =
     unanswered_less {StandsFor = SessionStands g.D.PoolDisks.worlds g.D.PoolDisks.volume_count g.D.Draft.Draft.place g.D.Draft.Draft.bytes c.args.session.now}
-    (unanswered_outside standing (now_allowed standing.pool (g.met.D.PoolDisks.only_now c.args.session.now.pool.disks)) _ _ _ c.in-Err-Bad.field-0-0 (told_bad c.args.text.now c.in-Err-Bad.field-0 c.in-Err-Bad.field-0-0 c.in-Err-Bad.field-0-is c.in-Err-Bad.ensures.line))
-    (λ s stood. leaves_safe stood.pool)
-
-pub returns-in-Err-Later-clause-err : goal.returns-in-Err-Later-clause-err
-returns-in-Err-Later-clause-err g c state standing =
-    unanswered_less {StandsFor = SessionStands g.D.PoolDisks.worlds g.D.PoolDisks.volume_count g.D.Draft.Draft.place g.D.Draft.Draft.bytes c.args.session.now}
-    (unanswered_later standing (now_allowed standing.pool (g.met.D.PoolDisks.only_now c.args.session.now.pool.disks)) _ _ _ (told_later c.args.text.now c.in-Err-Later.field-0 c.in-Err-Later.field-0-is c.in-Err-Later.ensures.line) c.requires.some_line)
+    (unanswered_outside standing (now_allowed standing.pool (g.met.D.PoolDisks.only_now c.args.session.now.pool.disks)) _ _ _ _
+    (told_bad c.args.text.now c.in-Err-Bad.field-0 _ (c.in-Err-Bad.field-0-is ∙ ap Bad (sym c.in-Err-Bad.column-is)) c.in-Err-Bad.ensures.line))
     (λ s stood. leaves_safe stood.pool)
 
 pub returns-in-Err-Memory-clause-err : goal.returns-in-Err-Memory-clause-err
@@ -25,6 +21,16 @@ returns-in-Err-Memory-clause-err g c state standing =
 
 pub returns-in-Blank-clause-ok : goal.returns-in-Blank-clause-ok
 returns-in-Blank-clause-ok g c state standing = answered_blank standing (now_allowed standing.pool (g.met.D.PoolDisks.only_now c.args.session.now.pool.disks)) _ _ (told_ok c.args.text.now c.in-Ok.line c.in-Ok.ensures.line ∙ ap Ok c.in-Blank.is)
+
+pub returns-then-not-is_carried_out-clause-err : goal.returns-then-not-is_carried_out-clause-err
+returns-then-not-is_carried_out-clause-err g c state standing =
+    unanswered_less {StandsFor = SessionStands g.D.PoolDisks.worlds g.D.PoolDisks.volume_count g.D.Draft.Draft.place g.D.Draft.Draft.bytes c.args.session.now}
+    (unanswered_later standing (now_allowed standing.pool (g.met.D.PoolDisks.only_now c.args.session.now.pool.disks)) _ _ _
+    (c.in-Ok.line, told_ok c.args.text.now c.in-Ok.line c.in-Ok.ensures.line, not_blank c.in-Ok.line c.in_default.not-Blank, sym c.is_carried_out.ensures ∙ c.if-not-is_carried_out.true) c.requires.some_line)
+    (λ s stood. leaves_safe stood.pool)
+
+pub carry_out-requires-clause-command : goal.carry_out-requires-clause-command
+carry_out-requires-clause-command g c = sym c.is_carried_out.ensures ∙ c.if-not-is_carried_out.false
 
 pub returns-in-Err-clause-err : goal.returns-in-Err-clause-err
 returns-in-Err-clause-err g c state standing =
@@ -39,7 +45,7 @@ returns-in_default-write_reply-clause-err g c state standing =
     let on = c.in-Ok-carry_out.ensures.goes_on in
     let line = c.in-Ok-carry_out.ensures.ok state standing in
     unanswered_less {StandsFor = SessionStands g.D.PoolDisks.worlds g.D.PoolDisks.volume_count g.D.Draft.Draft.place g.D.Draft.Draft.bytes c.carry_out.new.session}
-    (unanswered_unshown (now_allowed standing.pool (g.met.D.PoolDisks.only_now c.args.session.now.pool.disks)) _ (g.K.Sink.taken c.args.sink.now) _ _ c.in-Ok.line c.in-Ok-carry_out.reply (told_ok c.args.text.now c.in-Ok.line c.in-Ok.ensures.line) (is_command c.in-Ok.line c.in_default.not-Blank)
+    (unanswered_unshown (now_allowed standing.pool (g.met.D.PoolDisks.only_now c.args.session.now.pool.disks)) _ (g.K.Sink.taken c.args.sink.now) _ _ c.in-Ok.line c.in-Ok-carry_out.reply (told_ok c.args.text.now c.in-Ok.line c.in-Ok.ensures.line) (not_blank c.in-Ok.line c.in_default.not-Blank) (sym c.is_carried_out.ensures ∙ c.if-not-is_carried_out.false)
     (record { faults = on.faults; next_number = on.next_number; moment = on.moment }) line (now_allowed line.stands.pool (g.met.D.PoolDisks.only_now c.carry_out.new.session.pool.disks)))
     (λ s stood. leaves_safe stood.pool)
 
@@ -47,7 +53,7 @@ pub returns-in-Ok-write_all-clause-ok : goal.returns-in-Ok-write_all-clause-ok
 returns-in-Ok-write_all-clause-ok g c state standing =
     let on = c.in-Ok-carry_out.ensures.goes_on in
     let line = c.in-Ok-carry_out.ensures.ok state standing in
-    answered_command (now_allowed standing.pool (g.met.D.PoolDisks.only_now c.args.session.now.pool.disks)) _ _ c.args.number _ c.in-Ok.line c.in-Ok-carry_out.reply (told_ok c.args.text.now c.in-Ok.line c.in-Ok.ensures.line) (is_command c.in-Ok.line c.in_default.not-Blank)
+    answered_command (now_allowed standing.pool (g.met.D.PoolDisks.only_now c.args.session.now.pool.disks)) _ _ c.args.number _ c.in-Ok.line c.in-Ok-carry_out.reply (told_ok c.args.text.now c.in-Ok.line c.in-Ok.ensures.line) (not_blank c.in-Ok.line c.in_default.not-Blank) (sym c.is_carried_out.ensures ∙ c.if-not-is_carried_out.false)
     (record { faults = on.faults; next_number = on.next_number; moment = on.moment }) line (now_allowed line.stands.pool (g.met.D.PoolDisks.only_now c.carry_out.new.session.pool.disks))
     (subst (Appends (g.K.Sink.taken c.args.sink.now) (g.K.Sink.taken c.write_all.new.sink)) (c.deref.ensures.value ∙ c.in-Ok-write_reply.ensures) c.in-Ok-write_all.ensures.ok)
 
@@ -56,7 +62,7 @@ returns-clause-err g c state standing =
     let on = c.in-Ok-carry_out.ensures.goes_on in
     let line = c.in-Ok-carry_out.ensures.ok state standing in
     unanswered_less {StandsFor = SessionStands g.D.PoolDisks.worlds g.D.PoolDisks.volume_count g.D.Draft.Draft.place g.D.Draft.Draft.bytes c.carry_out.new.session}
-    (unanswered_cut (now_allowed standing.pool (g.met.D.PoolDisks.only_now c.args.session.now.pool.disks)) _ _ _ _ c.in-Ok.line c.in-Ok-carry_out.reply (told_ok c.args.text.now c.in-Ok.line c.in-Ok.ensures.line) (is_command c.in-Ok.line c.in_default.not-Blank)
+    (unanswered_cut (now_allowed standing.pool (g.met.D.PoolDisks.only_now c.args.session.now.pool.disks)) _ _ _ _ c.in-Ok.line c.in-Ok-carry_out.reply (told_ok c.args.text.now c.in-Ok.line c.in-Ok.ensures.line) (not_blank c.in-Ok.line c.in_default.not-Blank) (sym c.is_carried_out.ensures ∙ c.if-not-is_carried_out.false)
     (record { faults = on.faults; next_number = on.next_number; moment = on.moment }) line (now_allowed line.stands.pool (g.met.D.PoolDisks.only_now c.carry_out.new.session.pool.disks))
     (subst (AppendsFront (g.K.Sink.taken c.args.sink.now) (g.K.Sink.taken c.write_all.new.sink)) (c.deref.ensures.value ∙ c.in-Ok-write_reply.ensures) c.in-Err-write_all.ensures.err))
     (λ s stood. leaves_safe stood.pool)

@@ -30,3 +30,6 @@ returns-in-Write-clause-step g c state standing =
 
 pub returns-in-Delete-clause-step : goal.returns-in-Delete-clause-step
 returns-in-Delete-clause-step g c state standing = let t = c.delete.ensures.step state standing in carried c.in-Delete.is t.new t.stands t.step t.crash
+
+pub returns-in-Drop-clause-step : goal.returns-in-Drop-clause-step
+returns-in-Drop-clause-step g c state standing = let t = c.drop_writer.ensures.step state standing in carried c.in-Drop.is t.new t.stands t.step t.crash

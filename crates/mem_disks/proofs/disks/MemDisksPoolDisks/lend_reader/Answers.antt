@@ -8,3 +8,6 @@ returns-then-number-clause-time c = same_time _ _ _ _ refl (λ is. is)
 
 pub returns-clause-time : goal.returns-clause-time
 returns-clause-time c = same_time _ _ _ _ c.answer_with_number.ensures.records (λ is. absurd (both_ways _ c.answer_with_number.ensures.is_open is))
+
+pub returns-in_err-bytes-in-File-clause-time : goal.returns-in_err-bytes-in-File-clause-time
+returns-in_err-bytes-in-File-clause-time c = same_time _ _ _ _ refl (λ is. is)

@@ -1,27 +1,24 @@
 use Rattle.std.proofs.Common.{◌≡◌, ℕ, ◌+◌, ◌-◌, ◌/◌, ◌≤◌, List, ◌++◌, length, take, drop, subst, sym, ap, ap₂, ◌∙◌, arith, length-take, length-drop}
 use Rattle.std.proofs.Math.Seq.{take-add}
-use Rattle.std.proofs.lemmas.Nat.{le-div}
 use Rattle.std.proofs.lemmas.List.{take_all}
 use Rattle.meta_file.specs.Sums.{Adds}
 use Rattle.meta_file.proofs.SumLemmas.{Adds-again}
 use Rattle.meta_file.proofs.summer.Summer.take_all.Goals as goal
 
 pub take_some-at-requires-clause-room : goal.take_some-at-requires-clause-room
-take_some-at-requires-clause-room c = λ full.
+take_some-at-requires-clause-room c =
     let piece = c.args.piece.now in
     let at = c.loop-at.at in
     let now = c.loop-at.self in
     let within : at ≤ length piece = c.loop-at.invariant.0 in
-    let same : now.step ≡ c.args.self.now.step = c.loop-at.invariant.2 in
-    let stepped = c.requires.stepped in
     let rest : length (take (length piece - at) (drop at piece)) ≡ length piece - at =
     simp (length-take, length-drop) (omega (arith, within))
     in
-    let one : 1 ≤ (now.filled + (length piece - at)) / now.step =
-    le-div 1 (now.filled + (length piece - at)) now.step (omega (arith, same, stepped)) (omega (arith, full, rest))
+    let same : (now.filled + length (take (length piece - at) (drop at piece))) / now.step ≡ (now.filled + (length piece - at)) / now.step =
+    ap (λ (n : ℕ). (now.filled + n) / now.step) rest
     in
     let room = c.loop-at.invariant.4 in
-    omega (arith, one, room)
+    omega (arith, same, room)
 
 pub loop-at-preserved : goal.loop-at-preserved
 loop-at-preserved c =

@@ -1,48 +1,49 @@
-use Rattle.std.proofs.Common.{◌≡◌, ℕ, ◌+◌, ◌<◌, ◌≤◌, List, ◌++◌, length, take, subst, sym, ap, refl, arith}
-use Rattle.std.specs.Prelude.{bit_xor}
+use Rattle.std.proofs.Common.{◌≡◌, ℕ, ◌+◌, ◌-◌, ◌/◌, ◌%◌, ◌<◌, ◌≤◌, length, take, ap, ◌∙◌, arith}
 use Rattle.std.proofs.lemmas.List.{length-take-le}
-use Rattle.byteorder.specs.Endian.{big_bytes}
-use Rattle.meta_file.specs.Sums.{Progress, polynomial, Adds}
-use Rattle.meta_file.proofs.SumLemmas.{Adds-more, Adds-closed}
+use Rattle.std.proofs.lemmas.Grind.{common_steps}
+use Rattle.meta_file.specs.Sums.{Progress}
+use Rattle.meta_file.proofs.SumLemmas.{batch_rest}
 use Rattle.meta_file.proofs.summer.Summer.take_some.Goals as goal
 
-pub returns-then-taken-left-clause-adds : goal.returns-then-taken-left-clause-adds
-returns-then-taken-left-clause-adds c =
-    let s = c.self.inside in
-    let n = c.min-taken.result in
-    let before = c.args.out.now.items in
-    let sum : ℕ = bit_xor c.update-register.result 0xffff_ffff in
-    let old : Progress = record { kind = s.header.kind; step = s.header.step; filled = s.filled; register = s.register } in
-    let new : Progress = record { kind = s.header.kind; step = s.header.step; filled = 0; register = 0xffff_ffff } in
-    let room : s.filled < s.header.step = c.self.invariant.0 in
-    let poly : s.tables.poly ≡ polynomial s.header.kind = c.self.invariant.2 in
-    let kind = ap (λ (p : Progress). p.kind) c.self.view_is in
-    let some = c.requires.sums in
-    let few : n ≤ length c.args.piece.now = omega arith in
-    let len : length (take n c.args.piece.now) ≡ n = length-take-le n c.args.piece.now few in
-    let full = c.if-taken-left.true in
-    let added : Adds old new (take n c.args.piece.now) before (before ++ big_bytes 4 sum) =
-    Adds-closed s.header.kind s.header.step s.filled s.register s.tables.poly c.update-register.result
-    (take n c.args.piece.now) before (big_bytes 4 sum) (omega (arith, kind, some)) poly c.update-register.ensures
-    (omega (arith, len, full, room)) refl c.put_sum.ensures.value
-    in
-    subst (λ (p : Progress). Adds p new (take n c.args.piece.now) before c.put_sum.new.out.items) c.self.view_is
-    (subst (λ (o : List ℕ). Adds old new (take n c.args.piece.now) before o) (sym c.put_sum.ensures.items) added)
+pub unwrap-requires : goal.unwrap-requires
+unwrap-requires c =
+    let taken = c.min-taken.result in
+    let now = c.args.self.now in
+    let piece = c.args.piece.now in
+    let filled_below : c.self.inside.filled < c.self.inside.header.step = c.self.invariant.0 in
+    let step_is = ap (λ (p : Progress). p.step) c.self.view_is in
+    let stepped : 0 < now.step = omega (arith, filled_below, step_is) in
+    let few : taken ≤ length piece = omega arith in
+    let both = batch_rest now.filled taken (length piece) now.step stepped few in
+    let room = c.requires.room in
+    let count = c.sum_into-count.ensures.count in
+    let small : c.sum_into-count.result ≤ length c.sum_into-count.new.out = grind (arith, common_steps) in
+    let len = length-take-le c.sum_into-count.result c.sum_into-count.new.out small in
+    let piece_len = length-take-le taken piece few in
+    let same : (now.filled + length (take taken piece)) / now.step ≡ (now.filled + taken) / now.step = ap (λ (n : ℕ). (now.filled + n) / now.step) piece_len in
+    c.extend_from_slice.ensures.succeeds (omega (arith, len, count, same, both, room))
 
-pub returns-else-taken-left-clause-adds : goal.returns-else-taken-left-clause-adds
-returns-else-taken-left-clause-adds c =
-    let s = c.self.inside in
-    let n = c.min-taken.result in
-    let before = c.args.out.now.items in
-    let old : Progress = record { kind = s.header.kind; step = s.header.step; filled = s.filled; register = s.register } in
-    let poly : s.tables.poly ≡ polynomial s.header.kind = c.self.invariant.2 in
-    let kind = ap (λ (p : Progress). p.kind) c.self.view_is in
-    let some = c.requires.sums in
-    let few : n ≤ length c.args.piece.now = omega arith in
-    let len : length (take n c.args.piece.now) ≡ n = length-take-le n c.args.piece.now few in
-    let added : Adds old (record { kind = s.header.kind; step = s.header.step; filled = s.filled + length (take n c.args.piece.now); register = c.update-register.result }) (take n c.args.piece.now) before before =
-    Adds-more s.header.kind s.header.step s.filled s.register s.tables.poly c.update-register.result
-    (take n c.args.piece.now) before (omega (arith, kind, some)) poly c.update-register.ensures
+pub returns-clause-room : goal.returns-clause-room
+returns-clause-room c =
+    let taken = c.min-taken.result in
+    let now = c.args.self.now in
+    let piece = c.args.piece.now in
+    let filled_below : c.self.inside.filled < c.self.inside.header.step = c.self.invariant.0 in
+    let step_is = ap (λ (p : Progress). p.step) c.self.view_is in
+    let stepped : 0 < now.step = omega (arith, filled_below, step_is) in
+    let few : taken ≤ length piece = omega arith in
+    let both = batch_rest now.filled taken (length piece) now.step stepped few in
+    let count = c.sum_into-count.ensures.count in
+    let filled = c.sum_into-count.ensures.filled in
+    let small : c.sum_into-count.result ≤ length c.sum_into-count.new.out = grind (arith, common_steps) in
+    let len = length-take-le c.sum_into-count.result c.sum_into-count.new.out small in
+    let piece_len = length-take-le taken piece few in
+    let same : (now.filled + length (take taken piece)) / now.step ≡ (now.filled + taken) / now.step = ap (λ (n : ℕ). (now.filled + n) / now.step) piece_len in
+    let filled_is : c.sum_into-count.new.self.filled ≡ (now.filled + taken) % now.step =
+    filled ∙ ap (λ (n : ℕ). (now.filled + n) % now.step) piece_len
     in
-    subst (λ (p : Progress). Adds p (record { kind = s.header.kind; step = s.header.step; filled = s.filled + n; register = c.update-register.result }) (take n c.args.piece.now) before before) c.self.view_is
-    (subst (λ (k : ℕ). Adds old (record { kind = s.header.kind; step = s.header.step; filled = s.filled + k; register = c.update-register.result }) (take n c.args.piece.now) before before) len added)
+    let left : (c.sum_into-count.new.self.filled + (length piece - taken)) / now.step ≡ ((now.filled + taken) % now.step + (length piece - taken)) / now.step =
+    ap (λ (n : ℕ). (n + (length piece - taken)) / now.step) filled_is
+    in
+    let grown = rw c.unwrap.ensures at c.extend_from_slice.ensures.len in
+    omega (arith, grown, len, count, same, both, left)

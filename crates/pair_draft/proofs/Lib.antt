@@ -1,0 +1,4 @@
+pub mod Chunks
+pub mod Deciding
+pub mod HeaderFront
+pub mod Pieces

@@ -1,0 +1,4 @@
+pub mod Files
+pub mod Checking
+pub mod Writers
+pub mod Untold

@@ -1,0 +1,17 @@
+//! A block and its meta file: verified as they are read, and written as two drafts.
+#![tactic(auto)]
+
+mod checker;
+mod files;
+mod verification;
+mod writer;
+mod writing;
+
+pub use verification::verify;
+pub use writer::{SealedPair, Writing};
+pub use writing::{PushFault, SealFault, reserve_sums};
+
+#[cfg(test)]
+mod fakes;
+#[cfg(test)]
+mod tests;

@@ -1,0 +1,82 @@
+//! Lines about the directory scanner and the volume scanner.
+ghost use Rattle.std.specs.Prelude.{◌≡◌, IfOk};
+ghost use Rattle.script_lang.specs.ScanLines.{dirlist_line, dirdiff_line, dirfix_line, volload_line, volnext_line, volcheck_line, volreport_line, cursor_line};
+ghost use Rattle.script_lang.specs.Script.{scan_line};
+ghost use Rattle.script_lang.specs.LineRanges.{IsLineInRange};
+
+use crate::verb::ScanVerb;
+use crate::words::Words;
+use crate::{Line, LineFault};
+
+/// The rest of a line that begins with this word.
+pub fn read_scan_line(verb: ScanVerb, words: &mut Words) -> Result<Line, LineFault>
+    ensures line { result ≡ scan_line verb words.old }
+    ensures in_range { IfOk result IsLineInRange }
+{
+    match verb {
+        ScanVerb::DirList => read_dirlist(words),
+        ScanVerb::DirDiff => words.end(Line::Dirdiff),
+        ScanVerb::DirFix => words.end(Line::Dirfix),
+        ScanVerb::VolLoad => read_volload(words),
+        ScanVerb::VolNext => read_volnext(words),
+        ScanVerb::VolCheck => read_volcheck(words),
+        ScanVerb::VolReport => read_volreport(words),
+        ScanVerb::Cursor => read_cursor(words),
+    }
+}
+
+/// `dirlist VOL D1 D2`.
+pub fn read_dirlist(words: &mut Words) -> Result<Line, LineFault>
+    ensures line { result ≡ dirlist_line words.old }
+    ensures in_range { IfOk result IsLineInRange }
+{
+    let vol = words.volume()?;
+    let d1 = words.subdir()?;
+    let d2 = words.subdir()?;
+    words.end(Line::Dirlist { vol, d1, d2 })
+}
+
+/// `volload VOL`.
+pub fn read_volload(words: &mut Words) -> Result<Line, LineFault>
+    ensures line { result ≡ volload_line words.old }
+    ensures in_range { IfOk result IsLineInRange }
+{
+    let vol = words.volume()?;
+    words.end(Line::Volload { vol })
+}
+
+/// `volnext VOL`.
+pub fn read_volnext(words: &mut Words) -> Result<Line, LineFault>
+    ensures line { result ≡ volnext_line words.old }
+    ensures in_range { IfOk result IsLineInRange }
+{
+    let vol = words.volume()?;
+    words.end(Line::Volnext { vol })
+}
+
+/// `volcheck VOL`.
+pub fn read_volcheck(words: &mut Words) -> Result<Line, LineFault>
+    ensures line { result ≡ volcheck_line words.old }
+    ensures in_range { IfOk result IsLineInRange }
+{
+    let vol = words.volume()?;
+    words.end(Line::Volcheck { vol })
+}
+
+/// `volreport VOL`.
+pub fn read_volreport(words: &mut Words) -> Result<Line, LineFault>
+    ensures line { result ≡ volreport_line words.old }
+    ensures in_range { IfOk result IsLineInRange }
+{
+    let vol = words.volume()?;
+    words.end(Line::Volreport { vol })
+}
+
+/// `cursor VOL`.
+pub fn read_cursor(words: &mut Words) -> Result<Line, LineFault>
+    ensures line { result ≡ cursor_line words.old }
+    ensures in_range { IfOk result IsLineInRange }
+{
+    let vol = words.volume()?;
+    words.end(Line::Cursor { vol })
+}
