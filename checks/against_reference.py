@@ -162,7 +162,7 @@ def compare_killed(seed):
         found = Reference()
         for block, reply in zip(IDS, played([f"read {block}" for block in IDS])):
             allowed = {before.reply(f"read {block}"), after.reply(f"read {block}")}
-            if cut is not None and cut.split(" ")[1] == block and block not in before.final:
+            if cut is not None and cut.split(" ")[1:2] == [block] and block not in before.final:
                 # files without a replica may stand of it or not
                 allowed |= {"none", "waiting"}
             if reply not in allowed:

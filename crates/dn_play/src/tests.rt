@@ -188,6 +188,45 @@ fn calls_that_fail_are_answered(rt: HostRuntime) -> Result<(), Fail> {
     Ok(())
 }
 
+// Each opening lists 1,026 directories; a drop removes two files.
+#[test]
+fn openings_again_that_fail_end_a_run(rt: HostRuntime) -> Result<(), Fail> {
+    let alloc = rt.alloc();
+    let words = words_of(alloc, WORDS)?;
+    for (call, nth, want, replies) in [
+        (Call::List, 1027, 6, "ok\nok\nend open\n"),
+        (
+            Call::List,
+            2053,
+            0,
+            "ok\nok\nok\ndata 1001 61\nwaiting\nnowriter\nok\nok\nnone\n",
+        ),
+        (Call::Size, 1, 6, "ok\nok\nend open\n"),
+        (
+            Call::Remove,
+            1,
+            0,
+            "ok\nok\nok\ndata 1001 61\nwaiting\nnowriter\nok\nfailed\nwaiting\n",
+        ),
+        (
+            Call::Remove,
+            2,
+            0,
+            "ok\nok\nok\ndata 1001 61\nwaiting\nnowriter\nok\nfailed\nwaiting\n",
+        ),
+    ] {
+        let disks = failing_disks(alloc, call, nth)?;
+        let script =
+            b"write 5 1001 61\nopen 6 1002 1\nreopen\nread 5\nread 6\ndrop 6\nopen 7 1 1\ndrop 7\nread 7\n";
+        let mut source = PlainSource::make(script.to_vec(alloc)?);
+        let mut sink = PlainSink::make(alloc);
+        let run = play(alloc, words.as_slice(), disks, &mut source, &mut sink);
+        assert_eq!(rt; run.status, want, "of {call:?} {nth}");
+        assert_eq!(rt; sink.bytes(), replies.as_bytes(), "of {call:?} {nth}");
+    }
+    Ok(())
+}
+
 // Puts a file on volume 1.
 #[tactic(auto, using(crate::proofs::PutFiles::put_aside))]
 fn put_file(disk: &mut MemDisks, path: &str, bytes: &[u8]) -> Result<(), AllocError>
@@ -237,6 +276,38 @@ fn stored_disks(alloc: Global) -> Result<Vec<MemDisks>, AllocError>
     )?;
     put_file(&mut disk, "current/rbw/blk_8", b"")?;
     only(alloc, disk)
+}
+
+// Disks of one volume with block 5 beside two metas.
+fn doubtful_disks(alloc: Global) -> Result<Vec<MemDisks>, AllocError>
+    ensures aside { IfOk result (λ disks. All (λ d. InEachWorld (⟦<MemDisks as PoolDisks>⟧.worlds d) DraftsAside) disks.items) }
+{
+    let mut disk = MemDisks::empty(alloc, 1)?;
+    put_file(&mut disk, "current/finalized/subdir0/subdir0/blk_5", b"")?;
+    put_file(
+        &mut disk,
+        "current/finalized/subdir0/subdir0/blk_5_1001.meta",
+        b"",
+    )?;
+    put_file(
+        &mut disk,
+        "current/finalized/subdir0/subdir0/blk_5_1002.meta",
+        b"",
+    )?;
+    only(alloc, disk)
+}
+
+#[test]
+fn two_metas_of_a_block_end_a_run(rt: HostRuntime) -> Result<(), Fail> {
+    let alloc = rt.alloc();
+    let words = words_of(alloc, WORDS)?;
+    let disks = doubtful_disks(alloc)?;
+    let mut source = PlainSource::make(b"read 5\n".to_vec(alloc)?);
+    let mut sink = PlainSink::make(alloc);
+    let run = play(alloc, words.as_slice(), disks, &mut source, &mut sink);
+    assert_eq!(rt; run.status, 8);
+    assert_eq!(rt; sink.bytes(), b"end later 0\n".as_slice());
+    Ok(())
 }
 
 #[test]

@@ -70,6 +70,7 @@ impl MemDisks {
             (⟦<MemDisks as PoolDisks>⟧.worlds self.old) (⟦<MemDisks as PoolDisks>⟧.worlds self.new)) }
         ensures err { OnErr result (⟦<MemDisks as PoolDisks>⟧.worlds self.new ≡ ⟦<MemDisks as PoolDisks>⟧.worlds self.old) }
         ensures faults { ⟦<MemDisks as PoolDisks>⟧.faults self.new ≡ ⟦<MemDisks as PoolDisks>⟧.faults self.old }
+        ensures absences { ⟦<MemDisks as PoolDisks>⟧.absences self.new ≡ ⟦<MemDisks as PoolDisks>⟧.absences self.old }
         ensures numbers { ⟦<MemDisks as PoolDisks>⟧.next_number self.new ≡ ⟦<MemDisks as PoolDisks>⟧.next_number self.old }
         ensures volumes { ⟦<MemDisks as PoolDisks>⟧.volume_count self.new ≡ ⟦<MemDisks as PoolDisks>⟧.volume_count self.old }
     {
@@ -81,6 +82,7 @@ impl MemDisks {
     pub fn fail(&mut self, rule: FailRule) -> Result<(), AllocError>
         ensures worlds { ⟦<MemDisks as PoolDisks>⟧.worlds self.new ≡ ⟦<MemDisks as PoolDisks>⟧.worlds self.old }
         ensures faults { ⟦<MemDisks as PoolDisks>⟧.faults self.new ≡ ⟦<MemDisks as PoolDisks>⟧.faults self.old }
+        ensures absences { ⟦<MemDisks as PoolDisks>⟧.absences self.new ≡ ⟦<MemDisks as PoolDisks>⟧.absences self.old }
         ensures numbers { ⟦<MemDisks as PoolDisks>⟧.next_number self.new ≡ ⟦<MemDisks as PoolDisks>⟧.next_number self.old }
         ensures volumes { ⟦<MemDisks as PoolDisks>⟧.volume_count self.new ≡ ⟦<MemDisks as PoolDisks>⟧.volume_count self.old }
     {
