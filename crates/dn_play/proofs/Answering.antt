@@ -225,10 +225,13 @@ module _ {told now : Option (List World)} (state : RunState) {before after : Mar
   stayed : LeavesAllowed now state
   stayed image left = elim (stays.images before.moment image (leaves image left)) [
     | inl earlier ↦ (first image earlier, (was image (only image earlier)).1)
-    | inr allows ↦ (allows, elim (stays.whole before.moment image (leaves image left)) [
-      | inl earlier ↦ (was image (only image earlier)).1
-      | inr whole ↦ whole
-    ])
+    | inr allows ↦ (
+      allows,
+      elim (stays.whole before.moment image (leaves image left)) [
+        | inl earlier ↦ (was image (only image earlier)).1
+        | inr whole ↦ whole
+      ],
+    )
   ]
 
   crashed : LinesCrashSafe before state [] Sound AnyCells past since

@@ -2,7 +2,8 @@
 ghost use Rattle.std.specs.Prelude.{◌≤◌};
 
 use super::*;
-use std::alloc::Global;
+use std::alloc::{AllocError, Global};
+use std::process::Abort;
 use std::test::Fail;
 
 // The hexadecimal digits of the meta file of some bytes, which come in pieces of this length.
@@ -123,4 +124,71 @@ fn headers_have_faults(rt: HostRuntime) {
         assert!(rt; read_header(bytes) == want);
     }
     assert!(rt; Verdict::Whole != Verdict::Meta(MetaFault::Short { have: 3 }));
+}
+
+// CRC-32C bit by bit.
+fn bit_by_bit(bytes: &[u8]) -> u32 {
+    let mut register = u32::MAX;
+    for byte in bytes {
+        register ^= u32::from(*byte);
+        for _ in 0..8u32 {
+            register = if register & 1 == 1 {
+                (register >> 1) ^ 0x82f6_3b78
+            } else {
+                register >> 1
+            };
+        }
+    }
+    register ^ u32::MAX
+}
+
+// The checksums of some bytes in chunks of this length, in pieces of this length.
+fn sums(alloc: Global, bytes: &[u8], step: u32, cut: usize) -> Result<Vec<u8>, AllocError>
+    requires some { 1 ≤ step }
+    requires few { step ≤ 1048576 }
+    requires cut { 1 ≤ cut }
+{
+    let mut out = Vec::new(alloc);
+    let mut summer = Summer::new(Header { kind: 2, step });
+    for piece in bytes.chunks(cut) {
+        summer.push(piece, &mut out)?;
+    }
+    summer.finish(&mut out)?;
+    Ok(out)
+}
+
+// Each length up to 1,100, in one chunk of several pieces, and in two chunks side by side.
+#[test]
+fn every_length_has_the_sum_of_its_bits(rt: HostRuntime) -> Result<(), Fail> {
+    let alloc = rt.alloc();
+    let mut bytes = [0u8; 1100];
+    for i in 0..1100usize {
+        bytes[i] = (i * i % 253) as u8;
+    }
+    for len in 1..1101usize {
+        let all = bytes.get(..len).unwrap_or(&[]);
+        let sum = sums(alloc, all, 1_048_576, 1 + len % 19)?;
+        assert_eq!(rt;
+            sum.as_slice(),
+            bit_by_bit(all).to_be_bytes().as_slice(),
+            "of {len}"
+        );
+        let half = len.div_ceil(2);
+        let first = all.get(..half).unwrap_or(&[]);
+        let second = all.get(half..).unwrap_or(&[]);
+        let halves = sums(alloc, all, (half as u32).max(1).min(1100), len)?;
+        assert_eq!(rt;
+            halves.get(..4),
+            Some(bit_by_bit(first).to_be_bytes().as_slice()),
+            "of {len}"
+        );
+        if len > 1 {
+            assert_eq!(rt;
+                halves.get(4..),
+                Some(bit_by_bit(second).to_be_bytes().as_slice()),
+                "of {len}"
+            );
+        }
+    }
+    Ok(())
 }

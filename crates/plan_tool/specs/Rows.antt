@@ -5,7 +5,7 @@ use Rattle.std.specs.Str.{bytes_eq}
 use Rattle.density.specs.declared.volume_use.VolumeUse.{VolumeUse}
 use Rattle.line_io.specs.Lines.{terminated_lines, line_text, passes_limit}
 use Rattle.script_lang.specs.declared.LineFault.{LineFault}
-use Rattle.script_lang.specs.declared.LineFault.TheVariants.{Bad, Later, Memory}
+use Rattle.script_lang.specs.declared.LineFault.TheVariants.{Bad, Memory}
 use Rattle.script_lang.specs.Number.{number_of, within}
 use Rattle.script_lang.specs.Script.{is_blank}
 use Rattle.script_lang.specs.Words.{Cursor, first_word, behind_word, field, ends_with, ◌>>=◌}
@@ -50,7 +50,6 @@ pub record Input : Type 0 where
 abbrev pub input_after : ℕ → List Row → Result Row LineFault → (List Row → Input) → Input
 input_after number rows (Ok row) rest = rest (rows ++ row ∷ [])
 input_after number rows (Err (Bad column)) rest = record { rows = rows; stop = AtOutside number column }
-input_after number rows (Err Later) rest = rest rows
 input_after number rows (Err Memory) rest = rest rows
 
 -- an empty line, and one that begins with `#`, is passed over

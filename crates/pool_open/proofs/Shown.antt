@@ -12,10 +12,10 @@ use Rattle.map_model.specs.Cells.{Replica}
 use Rattle.map_model.specs.Copies.{Spot, BlockFiles, IsCopy, IsAlone, ReadsAs, files_of, block_files}
 use Rattle.map_model.specs.Checksums.{Matches}
 use Rattle.map_model.specs.Openings.{shown_files, ReadsAlike}
-use Rattle.map_model.specs.Sound.{HasSoundCopies, IsSound}
+use Rattle.map_model.specs.Sound.{HasSoundCopies}
 use Rattle.map_model.specs.Slots.{files_in, view_of}
 use Rattle.map_model.proofs.Bridge.{image_files}
-use Rattle.pool_open.specs.Outcome.{HasSoundFiles, ReadsBack}
+use Rattle.pool_open.specs.Outcome.{ReadsBack}
 
 -- an image of the world: drafts are empty files
 plain_image : World → Files

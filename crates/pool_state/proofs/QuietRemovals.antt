@@ -88,9 +88,9 @@ module _ {told : Option (List World)} {volumes : ℕ} {entries : ℕ → Option 
 
   calm_not : (state : State) → e.state ≡ state → IsNoWait state → ⊥
   calm_not state is calm = not_empty front (
-    sym (ap (λ (l : List BookLeftover). l ++ found id) (ap (left_in e) is ∙ lists_nothing state calm)
-    ∙ stands.clean id valid (subst IsNotWaiting (sym has) (subst IsNoWait (sym is) calm)))
-    ∙ listed)
+      sym (ap (λ (l : List BookLeftover). l ++ found id) (ap (left_in e) is ∙ lists_nothing state calm)
+      ∙ stands.clean id valid (subst IsNotWaiting (sym has) (subst IsNoWait (sym is) calm)))
+      ∙ listed)
 
   -- so the block waits
   waits_by : (state : State) → e.state ≡ state → (l : Bool) × (m : Bool) × (e.state ≡ Waiting l m)

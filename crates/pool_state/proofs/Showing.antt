@@ -108,7 +108,8 @@ module _ {told : Option (List World)} {volumes : ℕ} {entries : ℕ → Option 
         let own = stands.blocks from.was from.is other valid_other in
         let books : BlockBooks = block_books (entries other) (found other) in
         subst (λ (v : View). AllowsFiles (cells other) (files_in v) × (HasSoundCopies (MatchesIf sound) (files_in v) × IsWholeIn v)) (sym (from.others other valid_other apart)) (
-          block_allows (MatchesIf sound) (view_of from.was other) books (cells other) own, (
+          block_allows (MatchesIf sound) (view_of from.was other) books (cells other) own,
+          (
             block_is_sound (MatchesIf sound) (view_of from.was other) books (cells other) own,
             block_whole (MatchesIf sound) (view_of from.was other) (entries other) (found other) (cells other) own (stands.clean other valid_other),
           ),

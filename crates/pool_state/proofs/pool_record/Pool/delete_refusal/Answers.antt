@@ -1,6 +1,6 @@
-use Rattle.std.proofs.Common.{◌≡◌, None, Some, IfSome, refl, sym, ◌∙◌, ap, subst}
+use Rattle.std.proofs.Common.{refl, sym, ◌∙◌, subst}
 use Rattle.map_model.specs.Steps.{Step, delete, no_block}
-use Rattle.pool_state.specs.Answers.{unlimited, delete_fault}
+use Rattle.pool_state.specs.Answers.{unlimited}
 use Rattle.pool_state.proofs.Starting.{is_absent}
 use Rattle.pool_state.proofs.Deletions.{refused_in, free_in}
 use Rattle.pool_state.proofs.pool_record.Pool.delete_refusal.Goals as goal
