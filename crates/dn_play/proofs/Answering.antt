@@ -11,7 +11,7 @@ use Rattle.script_lang.specs.declared.Line.TheVariants.{Blank, Reopen}
 use Rattle.script_lang.specs.declared.reply.Reply.{Reply}
 use Rattle.script_lang.specs.Reply.{reply_line}
 use Rattle.script_lang.specs.Script.{line_of}
-use Rattle.dn_play.specs.declared.ending.Ending.TheVariants.{SinkFault, NoMemory, Outside, OpenFault, Later}
+use Rattle.dn_play.specs.declared.ending.Ending.TheVariants.{SinkFault, NoMemory, Outside, Later}
 use Rattle.dn_play.specs.State.{RunState, Mark, IsLater, Turn, last_state}
 use Rattle.dn_play.specs.Commands.{Trust}
 use Rattle.dn_play.specs.Lines.{Follows}

@@ -1,7 +1,6 @@
 -- What opening a pool again shows, and what a crash can leave meanwhile.
-use Rattle.std.proofs.Common.{◌≡◌, ◌⊎◌, inl, inr, ℕ, Bool, true, false, List, [], ◌∷◌, ◌++◌, Option, Some, None, MatchOption, refl, ap, sym, ◌∙◌, subst, IsTrue, IsSome, IfSome, option_map}
-use Rattle.std.specs.Prelude.{is_some, Result, Ok, Err, OnOk, OnErr}
-use Rattle.std.proofs.lemmas.Bool.{false≢true}
+use Rattle.std.proofs.Common.{◌≡◌, inl, inr, ℕ, Bool, true, List, [], Option, Some, None, MatchOption, refl, ap, sym, ◌∙◌, subst, IsTrue, option_map}
+use Rattle.std.specs.Prelude.{Result, Ok, Err, OnOk, OnErr}
 use Rattle.disk_model.specs.Files.{Files}
 use Rattle.disk_model.specs.Worlds.{World}
 use Rattle.disk_model.specs.Told.{IsWorldOf, InEachWorld}
@@ -9,10 +8,10 @@ use Rattle.disk_model.specs.Moments.{AddsOnly}
 use Rattle.volume_layout.specs.Paths.{IsBlockId}
 use Rattle.map_model.specs.Cells.{Replica, Cell, Cells, absent, final, growing, unsure, waiting}
 use Rattle.map_model.specs.Checksums.{Matches}
-use Rattle.map_model.specs.Copies.{Spot, BlockFiles, IsCopy, IsAlone, ReadsAs, OneWhole, block_files}
+use Rattle.map_model.specs.Copies.{Spot, BlockFiles, IsCopy, IsAlone, ReadsAs, OneWhole}
 use Rattle.map_model.specs.Allows.{AllowsFiles, AllowsImage}
-use Rattle.map_model.specs.Openings.{LeavesBlockFile, WaitsExactly, MakesCell, MakesCells, shown_files}
-use Rattle.map_model.specs.Slots.{File, block, writing_block, drafted, is_standing, View, files_in, view_of}
+use Rattle.map_model.specs.Openings.{LeavesBlockFile, WaitsExactly, MakesCell, shown_files}
+use Rattle.map_model.specs.Slots.{File, block, writing_block, is_standing, View, files_in, view_of}
 use Rattle.map_model.specs.Sound.{MatchesIf, HasSoundCopies, IsSound}
 use Rattle.map_model.specs.Stands.{Agrees, Leftover, is_written, is_waiting, WritesOver, Entry as BookEntry, BlockStands}
 use Rattle.map_model.specs.Steps.{FoundAs, Reopened}

@@ -1,5 +1,5 @@
 -- Disks that were opened on an image have no drafts, so none that doesn't stand aside.
-use Rattle.std.proofs.Common.{◌≡◌, ℕ, List, ◌∷◌, [], Option, Some, Result, Ok, Err, IfOk, false, refl, sym, ◌∙◌, subst, Contains}
+use Rattle.std.proofs.Common.{◌≡◌, List, [], Option, Result, Ok, Err, IfOk, false, refl, sym, ◌∙◌, subst, Contains}
 use Rattle.std.proofs.lemmas.Option.{same_Some}
 use Rattle.disk_model.specs.Files.{Files}
 use Rattle.disk_model.specs.Worlds.{World, has_draft}

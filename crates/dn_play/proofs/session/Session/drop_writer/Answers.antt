@@ -1,7 +1,7 @@
-use Rattle.std.proofs.Common.{◌≡◌, ◌-◌, inl, inr, None, refl, sym, ◌∙◌, ap, subst, arith, option_map, true, false}
+use Rattle.std.proofs.Common.{◌≡◌, ◌-◌, None, refl, sym, ◌∙◌, ap, subst, option_map}
 use Rattle.std.specs.Prelude.{MatchOption}
 use Rattle.map_model.specs.Cells.{growing}
-use Rattle.map_model.specs.Steps.{drop_write, done, failed, no_writer}
+use Rattle.map_model.specs.Steps.{done, failed, no_writer}
 use Rattle.pool_state.specs.Books.{entry_at}
 use Rattle.pool_state.specs.Writers.{writer_of}
 use Rattle.dn_play.specs.Standing.{NotGrowing, OpenWriter}
