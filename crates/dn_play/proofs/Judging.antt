@@ -2,6 +2,7 @@
 use Rattle.std.proofs.Common.{◌≡◌, ◌⊎◌, inl, inr, ℕ, Bool, true, false, List, [], Option, None, Some, IfSome, refl, sym, ◌∙◌, ap, subst, arith}
 use Rattle.disk_model.specs.Worlds.{World}
 use Rattle.disk_model.specs.Files.{Files}
+use Rattle.map_model.specs.Sound.{IsSound}
 use Rattle.disk_model.specs.Told.{CanLeave}
 use Rattle.dn_play.proofs.Opening.{alike_start, only_start}
 use Rattle.dn_play.specs.declared.ending.Ending.{Ending}
@@ -67,6 +68,7 @@ run_without Faulty since mark told input taken taken' ending status is only k = 
         open_fault = λ e. absurd (cc e);
         later = λ e. absurd (cc e);
         images = λ start holds image s. alike_start start image (only_start told start image holds (only image s));
+        sound = λ start holds sound image s. subst IsSound (sym (only_start told start image holds (only image s))) sound;
       });
       written = appends_nothing taken;
     })

@@ -119,7 +119,7 @@ told_weaker (Some bytes) commands ending h = reads_weaker bytes commands ending 
 -- a run that ends without memory for its last line
 goes_weaker : (Faulty : ℕ → ℕ → Type 0) (since : ℕ → Files → Type 0) (can_leave : Files → Type 0) (course : Course) (ending : Ending) (shown : List Reply) → Goes Faulty since can_leave course ending shown → Goes Faulty since can_leave course NoMemory shown
 goes_weaker Faulty since can_leave course ending shown goes = elim goes [
-  | inl s ↦ inl (record { is_before = inl refl; nothing = s.nothing; counts = s.counts; open_fault = λ e. absurd (cc e); later = λ e. absurd (cc e); images = s.images })
+  | inl s ↦ inl (record { is_before = inl refl; nothing = s.nothing; counts = s.counts; open_fault = λ e. absurd (cc e); later = λ e. absurd (cc e); images = s.images; sound = s.sound })
   | inr r ↦ inr (record {
     first = r.first;
     mark = r.mark;

@@ -120,6 +120,14 @@ module _ {D : Type 0} (worlds : D → Option (List World)) (faults next_number m
     | inr reads ↦ shown_start (worlds before) start reads.0 holds reads.1 (λ files. ReadsAlike files image) reads.2.alike
   ]
 
+  -- and is sound where that is
+  sound_still : (after : D) (start : Files) → HoldsImage (worlds before) start → IsSound start → AddsOnly (left_since before) (left_since after) (ReadsAsOne (worlds before)) →
+      (image : Files) → left_since after (moment before) image → IsSound image
+  sound_still after start holds sound adds image s = elim (adds (moment before) image s) [
+    | inl earlier ↦ subst IsSound (sym (only_start (worlds before) start image holds (only_now image earlier))) sound
+    | inr reads ↦ reads.2.sound (sound_start (worlds before) start holds sound reads.0 reads.1)
+  ]
+
   -- nothing was carried out
   pub stops_so : (out known : D) (fault : OpenFault D) (input taken : Option (List ℕ)) (ending : Ending) → out ≡ known → fault_disks fault ≡ known →
       GoesOn worlds faults next_number moment volume_count before (fault_disks fault) → IsBeforeOpened ending → WritesReplies ending taken taken [] →
@@ -138,6 +146,7 @@ module _ {D : Type 0} (worlds : D → Option (List World)) (faults next_number m
           open_fault = open_fault;
           later = later;
           images = λ start holds image s. reads_start known start holds reads image s;
+          sound = λ start holds sound image s. sound_still known start holds sound reads image s;
         });
         written = written;
       })

@@ -32,7 +32,7 @@ abbrev pub IsBeforeOpened : Ending → Type 0
 IsBeforeOpened ending = (ending ≡ NoMemory) ⊎ ((ending ≡ OpenFault) ⊎ (ending ≡ Later 0))
 
 -- The opening wasn't done, and nothing was carried out: it failed, or memory was wanting, or two metas of a block stand. Every
--- image that a crash could leave since the entry reads as the one at the beginning.
+-- image that a crash could leave since the entry reads as the one at the beginning, and is sound where that is.
 pub record StopsUnopened (since : ℕ → Files → Type 0) (course : Course) (ending : Ending) (shown : List Reply) : Type 0 where
   pub is_before : IsBeforeOpened ending
   pub nothing : shown ≡ []
@@ -40,6 +40,7 @@ pub record StopsUnopened (since : ℕ → Files → Type 0) (course : Course) (e
   pub open_fault : ending ≡ OpenFault → Rose course.entry.faults course.exit.faults
   pub later : ending ≡ Later 0 → (start : Files) → HoldsImage course.told start → HasTwoMetas start
   pub images : (start : Files) → HoldsImage course.told start → (image : Files) → since course.entry.moment image → ReadsAlike (block_files start) image
+  pub sound : (start : Files) → HoldsImage course.told start → IsSound start → (image : Files) → since course.entry.moment image → IsSound image
 
 -- The opening was done. Then lines of the script were carried out, in order, whatever is known of the disks. Where the disks
 -- tell one image at the entry, the first cells are what an opening makes of it. The cells allow what a crash can leave: those
