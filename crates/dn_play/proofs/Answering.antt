@@ -25,7 +25,7 @@ use Rattle.pool_open.specs.declared.opening.ReopenFault.TheVariants.{Failed, Mem
 use Rattle.dn_play.specs.declared.ending.Ending.{Ending}
 use Rattle.map_model.specs.Cells.{Cells}
 use Rattle.dn_play.specs.Images.{AllowedSince, StaysCrashSafe, LinesCrashSafe}
-use Rattle.dn_play.specs.Answer.{Answered, Unanswered, FirstOfLine, SaysLater, SaysUpTo, EndsAt, reopen_ending}
+use Rattle.dn_play.specs.Answer.{Answered, Unanswered, FirstOfLine, SaysLater, SaysReopen, SaysUpTo, EndsAt, reopen_ending}
 
 -- where nothing is written
 pub appends_nothing : (taken : Option (List ℕ)) → Appends taken taken []
@@ -57,9 +57,9 @@ told_bad text fault column is h = elim h [ inl e ↦ absurd cc | inr e ↦ sym e
 pub mark_stays : (mark : Mark) → IsLater mark mark
 mark_stays mark = record { faults = omega arith; next_number = omega arith; moment = omega arith }
 
-ends_later : (number : ℕ) (mark : Mark) → EndsAt (Later number) mark mark
-ends_later zero mark = mark_stays mark
-ends_later (suc number) mark = refl
+ends_later : (Reopens : Type 0) (number : ℕ) (mark : Mark) → EndsAt Reopens (Later number) mark mark
+ends_later Reopens zero mark = mark_stays mark
+ends_later Reopens (suc number) mark = refl
 
 says_later : (number : ℕ) (text : List ℕ) → SaysLater text → 1 ≤ number → SaysUpTo number text [] (Later number)
 says_later zero text e some = absurd (omega (arith, some))
@@ -105,7 +105,7 @@ module _ {Faulty : ℕ → ℕ → Type 0} {told : Option (List World)} {state :
     says = says_later number text e some;
     follows = λ trust known. tt;
     stands = stands;
-    at_mark = ends_later number before;
+    at_mark = ends_later (SaysReopen text []) number before;
     crash = no_lines now;
     shows = refl;
     written = appends_nothing taken;
@@ -119,7 +119,7 @@ module _ {Faulty : ℕ → ℕ → Type 0} {told : Option (List World)} {state :
     says = λ rest. ((script_after number (line_of text) rest).commands, refl);
     follows = λ trust known. tt;
     stands = stands;
-    at_mark = mark_stays before;
+    at_mark = inl refl;
     crash = no_lines now;
     shows = ([], refl, omega arith);
     written = appends_nothing taken;
@@ -175,7 +175,7 @@ module _ {Faulty : ℕ → ℕ → Type 0} {told : Option (List World)} {state :
       says = first_command;
       follows = follows;
       stands = carried.stands;
-      at_mark = mark_stays after;
+      at_mark = inl refl;
       crash = safe;
       shows = (reply ∷ [], refl, omega arith);
       written = appends_nothing taken;
@@ -266,7 +266,7 @@ module _ {told now : Option (List World)} (state : RunState) {before after : Mar
         says = λ rest. ((script_after number (line_of text) rest).commands, refl);
         follows = λ trust known. tt;
         stands = stayed;
-        at_mark = counts;
+        at_mark = inr ((refl, e), counts);
         crash = crashed;
         shows = ([], refl, omega arith);
         written = appends_nothing taken;

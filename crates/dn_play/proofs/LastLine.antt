@@ -9,15 +9,14 @@ use Rattle.script_lang.specs.declared.Line.TheVariants.{Reopen}
 use Rattle.script_lang.specs.declared.reply.Reply.{Reply}
 use Rattle.dn_play.specs.declared.ending.Ending.{Ending}
 use Rattle.dn_play.specs.declared.ending.Ending.TheVariants.{Complete, Usage, SourceFault, SinkFault, NoMemory, Outside, OpenFault, Limit, Later}
-use Rattle.dn_play.specs.State.{RunState, Mark, IsLater, Turn, last_mark, turn_lines, turn_replies}
+use Rattle.dn_play.specs.State.{RunState, Mark, Turn, last_mark, turn_lines, turn_replies}
 use Rattle.dn_play.specs.Commands.{any_disks}
 use Rattle.dn_play.specs.Lines.{Follows}
 use Rattle.dn_play.specs.Script.{script_of}
 use Rattle.dn_play.specs.Session.{status_of, status_at, last_line, Writes, WritesReplies, Shows, Reads, FirstCommands, Declines, text_of}
-use Rattle.dn_play.specs.Answer.{Closed, IsOfLines, EndsAt}
+use Rattle.dn_play.specs.Answer.{Closed, IsOfLines, NextReopens, EndsAt}
 use Rattle.disk_model.specs.Files.{Files}
 use Rattle.dn_play.specs.Play.{Course, Goes, RunsPool, Runs}
-use Rattle.dn_play.proofs.Answering.{mark_stays}
 use Rattle.dn_play.proofs.Progress.{appends_append, take_behind, rose_from}
 
 front_then : (old mid new : Option (List ℕ)) (xs ys : List ℕ) → Appends old mid xs → AppendsFront mid new ys → AppendsFront old new (xs ++ ys)
@@ -54,21 +53,19 @@ written_both SinkFault status old mid new xs h is k =
 before_reopen : (bytes : List ℕ) (commands : List Line) → FirstCommands bytes (commands ++ Reopen ∷ []) → FirstCommands bytes commands
 before_reopen bytes commands h = (Reopen ∷ h.0, h.1 ∙ append_assoc commands (Reopen ∷ []) h.0)
 
-later_same : (last end : Mark) → last ≡ end → IsLater last end
-later_same last end is = subst (λ m. IsLater last m) is (mark_stays last)
-
--- the counts don't fall
-ends_weaker : (ending : Ending) (last end : Mark) → EndsAt ending last end → EndsAt NoMemory last end
-ends_weaker Complete last end h = later_same last end h
-ends_weaker Usage last end h = later_same last end h
-ends_weaker SourceFault last end h = later_same last end h
-ends_weaker SinkFault last end h = later_same last end h
-ends_weaker NoMemory last end h = h
-ends_weaker (Outside line column) last end h = later_same last end h
-ends_weaker OpenFault last end h = h.0
-ends_weaker (Limit line) last end h = later_same last end h
-ends_weaker (Later zero) last end h = h
-ends_weaker (Later (suc line)) last end h = later_same last end h
+-- want of memory for the last line says no less of the counts
+ends_weaker : (input : Option (List ℕ)) (commands : List Line) (ending : Ending) (last end : Mark) → IfSome input (λ bytes. Reads bytes commands ending) →
+    EndsAt (NextReopens input commands) ending last end → EndsAt (NextReopens input commands) NoMemory last end
+ends_weaker input commands Complete last end read h = inl h
+ends_weaker input commands Usage last end read h = inl h
+ends_weaker input commands SourceFault last end read h = inl h
+ends_weaker input commands SinkFault last end read h = inl h
+ends_weaker input commands NoMemory last end read h = h
+ends_weaker input commands (Outside line column) last end read h = inl h
+ends_weaker input commands OpenFault last end read h = inr (read, h.0)
+ends_weaker input commands (Limit line) last end read h = inl h
+ends_weaker input commands (Later zero) last end read h = inr (read, h)
+ends_weaker input commands (Later (suc line)) last end read h = inl h
 
 -- the lines keep the order of the counts
 follows_later : (Faulty : ℕ → ℕ → Type 0) (state : RunState) (mark : Mark) (turns : List Turn) → Follows any_disks Faulty state mark turns → mark.faults ≤ (last_mark mark turns).faults
@@ -129,7 +126,7 @@ goes_weaker Faulty since can_leave course ending shown goes = elim goes [
     from_start = r.from_start;
     counts = r.counts;
     follows = r.follows;
-    at_exit = ends_weaker ending (last_mark r.mark r.turns) course.exit r.at_exit;
+    at_exit = ends_weaker course.input (turn_lines r.turns) ending (last_mark r.mark r.turns) course.exit r.read r.at_exit;
     read = told_weaker course.input (turn_lines r.turns) ending r.read;
     shows = shows_weaker (turn_replies r.turns) shown ending r.shows;
     of_lines = tt;
@@ -252,7 +249,7 @@ pub opening_failed : (Faulty : ℕ → ℕ → Type 0) (since : ℕ → Files �
 opening_failed Faulty since can_leave course shown ending goes e = elim goes [
   | inl s ↦ s.open_fault e
   | inr r ↦
-      let at : EndsAt OpenFault (last_mark r.mark r.turns) course.exit = subst (λ (x : Ending). EndsAt x (last_mark r.mark r.turns) course.exit) e r.at_exit in
+      let at : EndsAt (NextReopens course.input (turn_lines r.turns)) OpenFault (last_mark r.mark r.turns) course.exit = subst (λ (x : Ending). EndsAt (NextReopens course.input (turn_lines r.turns)) x (last_mark r.mark r.turns) course.exit) e r.at_exit in
       let lines = follows_later Faulty r.first r.mark r.turns (r.follows any_disks tt) in
       rose_from course.entry.faults (last_mark r.mark r.turns).faults course.exit.faults (omega (arith, r.counts.faults, lines)) at.1
 ]

@@ -1,5 +1,5 @@
 -- How far a session has come, and how a line takes it on.
-use Rattle.std.proofs.Common.{◌≡◌, false, ℕ, zero, ◌+◌, ◌≤◌, suc, List, [], ◌∷◌, ◌++◌, length, take, refl, ap, sym, ◌∙◌, subst, arith, Option, Some, None, IfSome, IsSome}
+use Rattle.std.proofs.Common.{◌≡◌, inl, inr, false, ℕ, zero, ◌+◌, ◌≤◌, suc, List, [], ◌∷◌, ◌++◌, length, take, refl, ap, sym, ◌∙◌, subst, arith, Option, Some, None, IfSome, IsSome}
 use Rattle.std.proofs.lemmas.List.{append-nil, append_assoc}
 use Rattle.std.specs.Io.KnownBytes.{Appends}
 use Rattle.disk_model.specs.Worlds.{World}
@@ -15,19 +15,19 @@ use Rattle.script_lang.specs.Reply.{reply_line}
 use Rattle.script_lang.specs.Script.{line_of}
 use Rattle.dn_play.specs.declared.ending.Ending.{Ending}
 use Rattle.dn_play.specs.declared.ending.Ending.TheVariants.{Complete, Usage, SourceFault, SinkFault, NoMemory, Outside, OpenFault, Limit, Later}
-use Rattle.dn_play.specs.State.{RunState, Mark, IsLater, Turn, turn_lines, turn_replies, last_state, last_mark}
+use Rattle.dn_play.specs.State.{RunState, Mark, Turn, turn_lines, turn_replies, last_state, last_mark}
 use Rattle.dn_play.specs.Commands.{Trust, any_disks, telling_disks}
 use Rattle.dn_play.specs.Lines.{Follows}
 use Rattle.dn_play.specs.Standing.{IsKnown}
 use Rattle.dn_play.specs.Script.{Script, AtEnd, AtOutside, AtLimit, AtLater, stops, script_after, script_from, script_of, prepend, is_blank, is_carried, goes_on}
 use Rattle.dn_play.specs.Session.{Shows, WritesReplies, text_of, Reads, FirstCommands, AllCommands}
-use Rattle.dn_play.specs.Answer.{Answered, Unanswered, FirstOfLine, SaysUpTo, SaysReopen, EndsAt, Played, IsOfLines, ending_at}
+use Rattle.dn_play.specs.Answer.{Answered, Unanswered, FirstOfLine, SaysUpTo, SaysReopen, NextReopens, EndsAt, Played, IsOfLines, ending_at}
 use Rattle.disk_model.specs.Files.{Files}
 use Rattle.map_model.specs.Cells.{Cells}
 use Rattle.dn_play.specs.Images.{AllowedSince, LinesCrashSafe}
 use Rattle.dn_play.proofs.Crashes.{crash_on}
 use Rattle.dn_play.specs.Standing.{AnyCells}
-use Rattle.dn_play.proofs.Answering.{appends_nothing, no_lines, lines_less, mark_stays}
+use Rattle.dn_play.proofs.Answering.{appends_nothing, no_lines, lines_less}
 
 -- the lines so far, what is written, and that these lines and the script of what is unread are the whole script
 pub record Progress (Faulty : ℕ → ℕ → Type 0) (told : Option (List World)) (state : RunState) (before now : Mark) (input left : Option (List ℕ)) (pending : List ℕ) (number count : ℕ)
@@ -253,6 +253,19 @@ ends_lines Source line ending e = subst IsOfLines (sym e) tt
 ends_lines LineLimit line ending e = subst IsOfLines (sym e) tt
 ends_lines Memory line ending e = subst IsOfLines (sym e) tt
 
+-- what is known of the next line at the end of one is known at the end of all
+ends_on : {Here There : Type 0} → (Here → There) → (ending : Ending) (last end : Mark) → EndsAt Here ending last end → EndsAt There ending last end
+ends_on then Complete last end h = h
+ends_on then Usage last end h = h
+ends_on then SourceFault last end h = h
+ends_on then SinkFault last end h = h
+ends_on then NoMemory last end h = elim h [ inl same ↦ inl same | inr next ↦ inr (then next.0, next.1) ]
+ends_on then (Outside line column) last end h = h
+ends_on then OpenFault last end h = h
+ends_on then (Limit line) last end h = h
+ends_on then (Later zero) last end h = h
+ends_on then (Later (suc line)) last end h = h
+
 -- lines behind lines, from where these ended
 all_follow : (Faulty : ℕ → ℕ → Type 0) (told told_now : Option (List World)) (state : RunState) (before now : Mark) → (IsSome told → IsSome told_now) → (turns more : List Turn) → last_mark before turns ≡ now →
     ((trust : Trust) → IsKnown trust told → Follows trust Faulty state before turns) → ((trust : Trust) → IsKnown trust told_now → Follows trust Faulty (last_state state turns) now more) →
@@ -286,7 +299,7 @@ module _ {Faulty : ℕ → ℕ → Type 0} {told : Option (List World)} {state :
     shown = [];
     follows = λ trust known. tt;
     stands = stands;
-    at_mark = mark_stays before;
+    at_mark = inl refl;
     crash = no_lines from_now;
     read = nothing_so_far input;
     shows = ([], refl, omega arith);
@@ -343,7 +356,7 @@ module _ {Faulty : ℕ → ℕ → Type 0} {told : Option (List World)} {state :
       shown = turn_replies p.turns;
       follows = p.follows;
       stands = p.stands;
-      at_mark = subst (λ m. IsLater (last_mark before p.turns) m) p.at_mark (mark_stays (last_mark before p.turns));
+      at_mark = inl p.at_mark;
       crash = p.crash;
       read = first_so_far input left pending number count (turn_lines p.turns) p.read;
       shows = ([], sym (append-nil (turn_replies p.turns)), omega arith);
@@ -385,7 +398,10 @@ module _ {Faulty : ℕ → ℕ → Type 0} {told : Option (List World)} {state :
         shown = turn_replies p.turns ++ u.shown;
         follows = all_follow Faulty told told_now state before now honest p.turns u.turns p.at_mark p.follows u.follows;
         stands = subst StandsThen (sym (last_state-append state p.turns u.turns)) u.stands;
-        at_mark = subst (λ m. EndsAt ending m after) (sym (last_mark-append before p.turns u.turns ∙ ap (λ m. last_mark m u.turns) p.at_mark)) u.at_mark;
+        at_mark = subst (λ m. EndsAt (NextReopens input (turn_lines (p.turns ++ u.turns))) ending m after) (sym (last_mark-append before p.turns u.turns ∙ ap (λ m. last_mark m u.turns) p.at_mark))
+            (ends_on (λ says. subst (NextReopens input) (sym (turn_lines-append p.turns u.turns))
+            (reopen_on input left left' pending pending' number count count' text (turn_lines p.turns) (turn_lines u.turns) p.read t (subst (λ s. SaysReopen s (turn_lines u.turns)) same_text says)))
+            ending (last_mark now u.turns) after u.at_mark);
         crash = crash_on p.at_mark p.crash u.crash;
         read = subst (λ c. IfSome input (λ bytes. Reads bytes c ending)) (sym (turn_lines-append p.turns u.turns))
             (reads_on input left left' pending pending' number count count' text (turn_lines p.turns) (turn_lines u.turns) ending p.read t (subst (λ s. SaysUpTo (number + 1) s (turn_lines u.turns) ending) same_text u.says));

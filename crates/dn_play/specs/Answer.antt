@@ -1,5 +1,5 @@
 -- What the answer to one line does, and what the lines of a session do.
-use Rattle.std.specs.Prelude.{◌≡◌, ◌≢◌, ◌⊎◌, ℕ, false, ◌++◌, List, [], Option, Ok, Err, IfSome, ⊤, zero, suc}
+use Rattle.std.specs.Prelude.{◌≡◌, ◌≢◌, ◌⊎◌, ℕ, false, ◌++◌, List, [], ◌∷◌, Option, Ok, Err, IfSome, ⊤, zero, suc}
 use Rattle.std.specs.Io.KnownBytes.{Appends}
 use Rattle.disk_model.specs.Worlds.{World}
 use Rattle.disk_model.specs.Causes.{Rose}
@@ -22,7 +22,7 @@ use Rattle.disk_model.specs.Files.{Files}
 use Rattle.map_model.specs.Cells.{Cells}
 use Rattle.dn_play.specs.Standing.{IsKnown}
 use Rattle.dn_play.specs.Script.{Script, is_blank, is_carried, script_after, prepend}
-use Rattle.dn_play.specs.Session.{Reads, Shows, Writes, WritesReplies, text_of, status_of, last_line}
+use Rattle.dn_play.specs.Session.{Reads, FirstCommands, Shows, Writes, WritesReplies, text_of, status_of, last_line}
 
 -- the line's command, if it has one, was carried out, and its reply written
 pub record Answered (Faulty : ℕ → ℕ → Type 0) (told : Option (List World)) (state : RunState) (before after : Mark) (taken taken' : Option (List ℕ)) (text : List ℕ)
@@ -40,18 +40,22 @@ abbrev pub FirstOfLine : ℕ → List ℕ → List Line → Type 0
 FirstOfLine number text commands = (rest : Script) → (others : List Line) × ((script_after number (line_of text) rest).commands ≡ commands ++ others)
 
 -- How the counts at the end follow those after the last line that was answered: they are the same, but where an opening again
--- was begun and not done.
-abbrev pub EndsAt : Ending → Mark → Mark → Type 0
-EndsAt Complete last end = last ≡ end
-EndsAt Usage last end = last ≡ end
-EndsAt SourceFault last end = last ≡ end
-EndsAt SinkFault last end = last ≡ end
-EndsAt NoMemory last end = IsLater last end
-EndsAt (Outside line column) last end = last ≡ end
-EndsAt OpenFault last end = IsLater last end × Rose last.faults end.faults
-EndsAt (Limit line) last end = last ≡ end
-EndsAt (Later zero) last end = IsLater last end
-EndsAt (Later (suc line)) last end = last ≡ end
+-- was begun and not done. `Reopens` says that the next line asks for one.
+abbrev pub EndsAt : (Reopens : Type 0) → Ending → Mark → Mark → Type 0
+EndsAt Reopens Complete last end = last ≡ end
+EndsAt Reopens Usage last end = last ≡ end
+EndsAt Reopens SourceFault last end = last ≡ end
+EndsAt Reopens SinkFault last end = last ≡ end
+EndsAt Reopens NoMemory last end = (last ≡ end) ⊎ (Reopens × IsLater last end)
+EndsAt Reopens (Outside line column) last end = last ≡ end
+EndsAt Reopens OpenFault last end = IsLater last end × Rose last.faults end.faults
+EndsAt Reopens (Limit line) last end = last ≡ end
+EndsAt Reopens (Later zero) last end = IsLater last end
+EndsAt Reopens (Later (suc line)) last end = last ≡ end
+
+-- the command behind these asks for the pool to be opened again
+abbrev pub NextReopens : Option (List ℕ) → List Line → Type 0
+NextReopens input commands = IfSome input (λ bytes. FirstCommands bytes (commands ++ Reopen ∷ []))
 
 -- the line asks for the pool to be opened again
 abbrev pub SaysReopen : List ℕ → List Line → Type 0
@@ -88,7 +92,7 @@ pub record Unanswered (Faulty : ℕ → ℕ → Type 0) (told : Option (List Wor
   pub says : SaysUpTo number text (turn_lines turns) ending
   pub follows : (trust : Trust) → IsKnown trust told → Follows trust Faulty state before turns
   pub stands : StandsFor (last_state state turns)
-  pub at_mark : EndsAt ending (last_mark before turns) after
+  pub at_mark : EndsAt (SaysReopen text (turn_lines turns)) ending (last_mark before turns) after
   pub crash : LinesCrashSafe before state turns Sound SoundNow past since
   pub shows : Shows (turn_replies turns) ending shown
   pub written : WritesReplies ending taken taken' (text_of shown)
@@ -106,7 +110,7 @@ pub record Played (Faulty : ℕ → ℕ → Type 0) (told : Option (List World))
   pub shown : List Reply
   pub follows : (trust : Trust) → IsKnown trust told → Follows trust Faulty state before turns
   pub stands : StandsFor (last_state state turns)
-  pub at_mark : EndsAt ending (last_mark before turns) after
+  pub at_mark : EndsAt (NextReopens input (turn_lines turns)) ending (last_mark before turns) after
   pub crash : LinesCrashSafe before state turns Sound SoundNow past since
   pub read : IfSome input (λ bytes. Reads bytes (turn_lines turns) ending)
   pub shows : Shows (turn_replies turns) ending shown

@@ -18,7 +18,7 @@ use Rattle.dn_play.specs.Lines.{Follows}
 use Rattle.dn_play.specs.Images.{AllowedSince, AllowedSinceEach}
 use Rattle.dn_play.specs.Standing.{IsKnown}
 use Rattle.dn_play.specs.Session.{Reads, Shows, Ends, WritesReplies, text_of}
-use Rattle.dn_play.specs.Answer.{IsOfLines, EndsAt}
+use Rattle.dn_play.specs.Answer.{IsOfLines, EndsAt, NextReopens}
 
 -- what a run is given and leaves: its disks' counts at the entry and at the exit, what they told at the entry, and its input
 pub record Course : Type 0 where
@@ -57,7 +57,7 @@ pub record RunsLines (Faulty : ℕ → ℕ → Type 0) (since : ℕ → Files �
   pub from_start : (start : Files) → HoldsImage course.told start → MakesCells (block_files start) first.cells
   pub counts : IsLater course.entry mark
   pub follows : (trust : Trust) → IsKnown trust course.told → Follows trust Faulty first mark turns
-  pub at_exit : EndsAt ending (last_mark mark turns) course.exit
+  pub at_exit : EndsAt (NextReopens course.input (turn_lines turns)) ending (last_mark mark turns) course.exit
   pub read : IfSome course.input (λ input. Reads input (turn_lines turns) ending)
   pub shows : Shows (turn_replies turns) ending shown
   pub of_lines : IsOfLines ending
