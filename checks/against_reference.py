@@ -6,7 +6,9 @@
 It wants the program that `rt run` in `crates/dnplay` builds. COUNT times four random scripts run one after the other over
 one directory, and every reply is compared; then COUNT times three scripts are killed at a random moment, and what the next
 run reads is compared: all that was answered stands, and only the block of the line that was cut off may stand before or
-after that line. It ends with a line of what was run, or with the first difference.
+after that line. Between two scripts some files of replicas are spoilt, so that reads answer verdicts, and each meta file
+that the program wrote is compared with checksums made here. It ends with a line of what was run, or with the first
+difference.
 """
 
 import copy
@@ -24,10 +26,63 @@ COMMAND = [str(PROGRAM), "bp1", "DN-1", f"DS-1:1000:{DIRECTORY}"]
 IDS = ["1", "2", "3", "70000", str(2**63 - 1)]
 
 
+def table_of(polynomial):
+    table = []
+    for byte in range(256):
+        for _ in range(8):
+            byte = byte >> 1 ^ (polynomial if byte & 1 else 0)
+        table.append(byte)
+    return table
+
+
+TABLES = {1: table_of(0xEDB88320), 2: table_of(0x82F63B78)}
+
+
+def checksum(kind, chunk):
+    total = 0xFFFFFFFF
+    for byte in chunk:
+        total = total >> 8 ^ TABLES[kind][(total ^ byte) & 0xFF]
+    return total ^ 0xFFFFFFFF
+
+
+def sums_of(kind, step, content):
+    chunks = [content[at : at + step] for at in range(0, len(content), step)]
+    return b"".join(checksum(kind, chunk).to_bytes(4, "big") for chunk in chunks)
+
+
+def meta_of(kind, step, content):
+    header = bytes([0, 1, kind]) + step.to_bytes(4, "big")
+    return header + (sums_of(kind, step, content) if kind else b"")
+
+
+def verdict_of(meta, content):
+    """The verdict on a block of this content; none where it is whole."""
+    if len(meta) < 7:
+        return f"badmeta short {len(meta)}"
+    version, kind, step = int.from_bytes(meta[:2], "big"), meta[2], int.from_bytes(meta[3:7], "big")
+    if version != 1:
+        return f"badmeta version {version}"
+    if kind > 2:
+        return f"badmeta type {kind}"
+    if not 1 <= step <= 1048576:
+        return f"badmeta step {step}"
+    if kind == 0:
+        return None
+    wanted, stored = sums_of(kind, step, content), meta[7:]
+    if len(wanted) != len(stored):
+        return f"count {len(wanted)} {min(len(stored), len(wanted) + 1)}"
+    for at in range(0, len(wanted), 4):
+        one, other = stored[at : at + 4], wanted[at : at + 4]
+        if one != other:
+            return f"badchunk {at // 4} {int.from_bytes(one, 'big')} {int.from_bytes(other, 'big')}"
+    return None
+
+
 class Reference:
-    """What a client sees of each block: final, written, or waiting to be deleted."""
+    """What a client sees of each block: final, written, or waiting to be deleted; and the spoilt meta files."""
 
     def __init__(self):
+        self.spoilt = {}
         self.final = {}
         self.written = {}
         self.waiting = set()
@@ -75,17 +130,22 @@ class Reference:
         if command == "read":
             if block in self.final:
                 stamp, content = self.final[block]
-                return f"data {stamp} {content}"
+                verdict = verdict_of(self.meta(block), bytes.fromhex(content))
+                return verdict or f"data {stamp} {content}"
             return "writing" if block in self.written else "waiting" if block in self.waiting else "none"
         if block in self.written:
             return "writing"
         if block in self.final:
             del self.final[block]
+            self.spoilt.pop(block, None)
             return "ok"
         if block in self.waiting:
             self.waiting.discard(block)
             return "ok"
         return "none"
+
+    def meta(self, block):
+        return self.spoilt.get(block) or meta_of(2, 512, bytes.fromhex(self.final[block][1]))
 
     def reopen(self):
         """A block with an open writer waits to be deleted."""
@@ -96,9 +156,9 @@ class Reference:
 def random_line(rng):
     block = rng.choice(IDS)
     stamp = rng.randint(1, rng.choice([5, 2**63 - 1]))
-    content = bytes(rng.randrange(256) for _ in range(rng.choice([0, 1, 3, 20]))).hex()
+    content = bytes(rng.randrange(256) for _ in range(rng.choice([0, 1, 3, 20, 20, 511, 512, 513, 1500]))).hex()
     return rng.choice([
-        f"open {block} {stamp} {rng.choice([0, 1, 5, 30])}",
+        f"open {block} {stamp} {rng.choice([0, 1, 5, 30, 2000])}",
         f"push {block} {content}",
         f"finish {block}",
         f"drop {block}",
@@ -117,6 +177,41 @@ def played(lines):
     return run.stdout.decode().split("\n")[:-1]
 
 
+def path_of(name):
+    found = list(DIRECTORY.rglob(f"finalized/*/*/{name}"))
+    return found[0] if found else sys.exit(f"no file {name}")
+
+
+def compare_metas(seed, reference):
+    for block, (stamp, _) in reference.final.items():
+        found = path_of(f"blk_{block}_{stamp}.meta").read_bytes()
+        if found != reference.meta(block):
+            sys.exit(f"seed {seed}: the meta file of {block} is {found.hex()}")
+
+
+def spoil(rng, reference):
+    """Spoils a file of a replica: its meta file becomes another, or a byte of its block file does."""
+    block = rng.choice(list(reference.final))
+    stamp, content = reference.final[block]
+    content, meta = bytes.fromhex(content), reference.meta(block)
+    meta = rng.choice([
+        meta,
+        meta[: rng.randrange(len(meta) + 1)] or b"\0",
+        meta + bytes(rng.randint(1, 9)),
+        meta_of(rng.randrange(3), rng.choice([1, 7, 512, 1048576]), content),
+        meta_of(0, rng.choice([0, 1048577]), content),
+        bytes([0, rng.randrange(3), rng.randrange(5)]) + meta[3:],
+    ])
+    if content and rng.random() < 0.5:
+        at = rng.randrange(len(content))
+        content = content[:at] + bytes([content[at] ^ rng.randint(1, 255)]) + content[at + 1 :]
+        content = content[: rng.randint(0, len(content))] if rng.random() < 0.3 else content
+    path_of(f"blk_{block}").write_bytes(content)
+    path_of(f"blk_{block}_{stamp}.meta").write_bytes(meta)
+    reference.final[block] = (stamp, content.hex())
+    reference.spoilt[block] = meta
+
+
 def compare(seed):
     rng = random.Random(seed)
     shutil.rmtree(DIRECTORY, ignore_errors=True)
@@ -128,6 +223,9 @@ def compare(seed):
         if replies != wanted:
             sys.exit(f"seed {seed}: {[d for d in zip(lines, replies, wanted) if d[1] != d[2]][:3]}")
         reference.reopen()
+        compare_metas(seed, reference)
+        if reference.final and rng.random() < 0.5:
+            spoil(rng, reference)
 
 
 def killed(lines, seconds):

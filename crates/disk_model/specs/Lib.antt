@@ -9,3 +9,4 @@ pub mod Places
 pub mod Plain
 pub mod PlainLaws
 pub mod PlainStreams
+pub mod Untold

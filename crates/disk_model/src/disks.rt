@@ -184,7 +184,7 @@ pub trait PoolDisks: Drop {
         ensures volumes { volume_count self.new ≡ volume_count self.old };
 
     /// A reader of a settled file, under the next number, or `None` where there is no file. Where no number is left it
-    /// fails.
+    /// fails. A file has fewer than 2^64 bytes.
     fn lend_reader(
         &mut self,
         alloc: Global,
@@ -197,6 +197,7 @@ pub trait PoolDisks: Drop {
         ensures some { (r : _) → result ≡ Ok (Some r) → PicksOne (λ w. w.settled vol path.now ≡ Self.Reader.bytes r) (λ w. w)
             (worlds self.old) (worlds self.new) }
         ensures told { (r : _) → result ≡ Ok (Some r) → IsSome (worlds self.old) ↔ IsSome (Self.Reader.bytes r) }
+        ensures limit { (r : _) (all : List ℕ) → result ≡ Ok (Some r) → Self.Reader.bytes r ≡ Some all → length all < 2 ^ 64 }
         ensures fresh { (r : _) → result ≡ Ok (Some r) → Self.Reader.faults r ≡ 0 }
         ensures number { (r : _) → result ≡ Ok (Some r) →
             (Self.Reader.number r ≡ next_number self.old) × (next_number self.new ≡ next_number self.old + 1) }

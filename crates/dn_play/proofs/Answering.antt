@@ -133,7 +133,7 @@ module _ {Faulty : ℕ → ℕ → Type 0} {told : Option (List World)} {state :
     abbrev turn : Turn
     turn = record { line = line; reply = reply; state = carried.new; mark = after }
 
-    follows : (trust : Trust) → IsKnown trust told → Follows trust Faulty state before (turn ∷ [])
+    follows : (trust : Trust) → IsKnown (Sound state.cells) trust told → Follows trust Faulty state before (turn ∷ [])
     follows trust known = (record { counts = counts; does = carried.does trust known }, tt)
 
     -- what a crash can leave while it is carried out

@@ -1,5 +1,5 @@
 -- What opening a pool again shows, and what a crash can leave meanwhile.
-use Rattle.std.proofs.Common.{◌≡◌, inl, inr, ℕ, Bool, true, List, [], Option, Some, None, MatchOption, refl, ap, sym, ◌∙◌, subst, IsTrue, option_map}
+use Rattle.std.proofs.Common.{◌≡◌, inl, inr, ℕ, Bool, true, List, [], Option, Some, None, MatchOption, refl, ap, sym, ◌∙◌, subst, IsTrue, IsSome, option_map}
 use Rattle.std.specs.Prelude.{Result, Ok, Err, OnOk, OnErr}
 use Rattle.disk_model.specs.Files.{Files}
 use Rattle.disk_model.specs.Worlds.{World}
@@ -25,13 +25,13 @@ use Rattle.pool_state.specs.declared.entry.State.TheVariants.{Finalised, Writing
 use Rattle.pool_state.specs.Books.{entry_state, book_entry, block_books}
 use Rattle.pool_state.specs.Stands.{IsNotWaiting, PoolStands}
 use Rattle.pool_state.proofs.Whole.{block_whole}
-use Rattle.pool_state.specs.Writers.{Writer}
+use Rattle.pair_draft.specs.Writers.{Writer}
 use Rattle.pool_open.specs.Outcome.{HasSoundFiles, HasWholeFiles, ReadsAsOne, IsOpened, Opens}
 use Rattle.pool_open.proofs.Shown.{shown_view}
 use Rattle.script_lang.specs.declared.Line.TheVariants.{Reopen}
 use Rattle.script_lang.specs.declared.reply.Reply.TheVariants.{Done}
 use Rattle.dn_play.specs.State.{RunState, Mark}
-use Rattle.dn_play.specs.Commands.{Trust, any_disks, telling_disks}
+use Rattle.dn_play.specs.Commands.{Trust, any_disks, telling_disks, sound_disks}
 use Rattle.dn_play.specs.Lines.{CellsReopened}
 use Rattle.dn_play.specs.Images.{StaysCrashSafe}
 use Rattle.dn_play.specs.Standing.{Standing, IsKnown, LineCarried}
@@ -197,7 +197,7 @@ pub carried_reopen : {Faulty : ℕ → ℕ → Type 0} {told told' : Option (Lis
     {writers writers' : ℕ → Option Writer} {state : RunState} {before after : Mark} {past since : ℕ → Files → Type 0} → Standing told volumes entries found writers state →
     (opens : Opens told told' volumes' entries' found' past since) → ((id : ℕ) → writers' id ≡ None) → AddsOnly past since (ReadsAsOne told) →
     LineCarried Faulty told state before Reopen Done after (Standing told' volumes' entries' found' writers') (PoolStands told volumes entries found true) (PoolStands told' volumes' entries' found' true) past since
-carried_reopen {told = told} {writers' = writers'} {state = state} standing opens none images = record {
+carried_reopen {told = told} {volumes = volumes} {entries = entries} {found = found} {writers' = writers'} {state = state} standing opens none images = record {
   new = opened_of opens.cells state.writers;
   stands = stands_opened writers' opens state.writers none;
   does = λ trust known. record { done = refl; cells = by_trust trust known; writers = λ id. refl };
@@ -209,11 +209,15 @@ carried_reopen {told = told} {writers' = writers'} {state = state} standing open
   };
 }
   where
-    by_trust : (trust : Trust) → IsKnown trust told → CellsReopened trust state.cells opens.cells
-    by_trust any_disks known = opens.opened
-    by_trust telling_disks known =
+    by_telling : IsSome told → (id : ℕ) → IsBlockId id → Reopened (state.cells id) (opens.cells id)
+    by_telling known =
         let shows = opens.shown known in
         λ id valid. cell_reopened standing.pool shows.world shows.is id valid (opens.cells id) (shows.made id valid) (opens.opened id valid)
+
+    by_trust : (trust : Trust) → IsKnown (PoolStands told volumes entries found true state.cells) trust told → CellsReopened trust state.cells opens.cells
+    by_trust any_disks known = opens.opened
+    by_trust telling_disks known = by_telling known
+    by_trust sound_disks known = by_telling known.0
 
 -- it wasn't: what a crash can leave, the cells before allow
 pub stays_reopen : {told : Option (List World)} {volumes : ℕ} {entries : ℕ → Option Entry} {found : ℕ → List Leftover} {writers : ℕ → Option Writer} {state : RunState} {past since : ℕ → Files → Type 0} →

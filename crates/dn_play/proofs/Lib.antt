@@ -12,3 +12,4 @@ pub mod OneDisk
 pub mod Judging
 mod PutFiles
 mod FreshImages
+pub mod Ended

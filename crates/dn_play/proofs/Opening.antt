@@ -20,7 +20,7 @@ use Rattle.map_model.specs.Sound.{IsSound}
 use Rattle.map_model.specs.Stands.{Leftover}
 use Rattle.pool_state.specs.declared.entry.Entry.{Entry}
 use Rattle.pool_state.specs.Stands.{GoesOn, PoolStands}
-use Rattle.pool_state.specs.Writers.{Writer}
+use Rattle.pair_draft.specs.Writers.{Writer}
 use Rattle.pool_open.specs.declared.opening.OpenFault.{OpenFault}
 use Rattle.pool_open.specs.Outcome.{HoldsImage, HasTwoMetas, HasSoundFiles, ReadsAsOne, IsOpened, Opens, fault_disks}
 use Rattle.dn_play.specs.declared.ending.Ending.{Ending}
@@ -175,7 +175,8 @@ module _ {D : Type 0} (worlds : D → Option (List World)) (faults next_number m
           one_meta = one_meta;
           from_start = made;
           counts = record { faults = went.faults; next_number = went.next_number; moment = went.moment };
-          follows = λ trust known. p.follows trust (known_on trust (worlds before) (worlds mid) went.honest.0 known);
+          follows = λ trust known. p.follows trust (known_on trust (worlds before) (worlds mid) went.honest.0
+              (λ begins. opens.stands true (λ yes. sound_start (worlds before) begins.0 begins.1 begins.2)) known);
           at_exit = p.at_mark;
           read = p.read;
           shows = p.shows;

@@ -16,7 +16,7 @@ use Rattle.script_lang.specs.Script.{line_of}
 use Rattle.dn_play.specs.declared.ending.Ending.{Ending}
 use Rattle.dn_play.specs.declared.ending.Ending.TheVariants.{Complete, Usage, SourceFault, SinkFault, NoMemory, Outside, OpenFault, Limit, Later}
 use Rattle.dn_play.specs.State.{RunState, Mark, Turn, turn_lines, turn_replies, last_state, last_mark}
-use Rattle.dn_play.specs.Commands.{Trust, any_disks, telling_disks}
+use Rattle.dn_play.specs.Commands.{Trust, any_disks, telling_disks, sound_disks}
 use Rattle.dn_play.specs.Lines.{Follows}
 use Rattle.dn_play.specs.Standing.{IsKnown}
 use Rattle.dn_play.specs.Script.{Script, AtEnd, AtOutside, AtLimit, AtLater, stops, script_after, script_from, script_of, prepend, is_blank, is_carried, goes_on}
@@ -33,7 +33,7 @@ use Rattle.dn_play.proofs.Answering.{appends_nothing, no_lines, lines_less}
 pub record Progress (Faulty : ℕ → ℕ → Type 0) (told : Option (List World)) (state : RunState) (before now : Mark) (input left : Option (List ℕ)) (pending : List ℕ) (number count : ℕ)
     (taken taken' : Option (List ℕ)) (StandsFor : RunState → Type 0) (Sound SoundNow : Cells → Type 0) (past since : ℕ → Files → Type 0) : Type 0 where
   pub turns : List Turn
-  pub follows : (trust : Trust) → IsKnown trust told → Follows trust Faulty state before turns
+  pub follows : (trust : Trust) → IsKnown (Sound state.cells) trust told → Follows trust Faulty state before turns
   pub stands : StandsFor (last_state state turns)
   pub at_mark : last_mark before turns ≡ now
   pub crash : LinesCrashSafe before state turns Sound SoundNow past since
@@ -63,9 +63,10 @@ turn_replies-append [] more = refl
 turn_replies-append (turn ∷ turns) more = ap (λ p. turn.reply ∷ p) (turn_replies-append turns more)
 
 -- what is known of the disks stays known
-pub known_on : (trust : Trust) (told now : Option (List World)) → (IsSome told → IsSome now) → IsKnown trust told → IsKnown trust now
-known_on any_disks told now honest known = tt
-known_on telling_disks told now honest known = honest known
+pub known_on : {Sound SoundNow : Type 0} (trust : Trust) (told now : Option (List World)) → (IsSome told → IsSome now) → (Sound → SoundNow) → IsKnown Sound trust told → IsKnown SoundNow trust now
+known_on any_disks told now honest then known = tt
+known_on telling_disks told now honest then known = honest known
+known_on sound_disks told now honest then known = (honest known.0, then known.1)
 
 text_of-append : (replies more : List Reply) → text_of (replies ++ more) ≡ text_of replies ++ text_of more
 text_of-append [] more = refl
@@ -267,11 +268,11 @@ ends_on then (Later zero) last end h = h
 ends_on then (Later (suc line)) last end h = h
 
 -- lines behind lines, from where these ended
-all_follow : (Faulty : ℕ → ℕ → Type 0) (told told_now : Option (List World)) (state : RunState) (before now : Mark) → (IsSome told → IsSome told_now) → (turns more : List Turn) → last_mark before turns ≡ now →
-    ((trust : Trust) → IsKnown trust told → Follows trust Faulty state before turns) → ((trust : Trust) → IsKnown trust told_now → Follows trust Faulty (last_state state turns) now more) →
-    (trust : Trust) → IsKnown trust told → Follows trust Faulty state before (turns ++ more)
-all_follow Faulty told told_now state before now honest turns more at_mark so_far follows trust known = follows_append trust Faulty state before turns more (so_far trust known)
-    (subst (λ m. Follows trust Faulty (last_state state turns) m more) (sym at_mark) (follows trust (known_on trust told told_now honest known)))
+all_follow : {Sound SoundNow : Type 0} (Faulty : ℕ → ℕ → Type 0) (told told_now : Option (List World)) (state : RunState) (before now : Mark) → (IsSome told → IsSome told_now) → (Sound → SoundNow) → (turns more : List Turn) → last_mark before turns ≡ now →
+    ((trust : Trust) → IsKnown Sound trust told → Follows trust Faulty state before turns) → ((trust : Trust) → IsKnown SoundNow trust told_now → Follows trust Faulty (last_state state turns) now more) →
+    (trust : Trust) → IsKnown Sound trust told → Follows trust Faulty state before (turns ++ more)
+all_follow Faulty told told_now state before now honest then turns more at_mark so_far follows trust known = follows_append trust Faulty state before turns more (so_far trust known)
+    (subst (λ m. Follows trust Faulty (last_state state turns) m more) (sym at_mark) (follows trust (known_on trust told told_now honest then known)))
 
 module _ {Faulty : ℕ → ℕ → Type 0} {told : Option (List World)} {state : RunState} {before : Mark} {StandsFor : RunState → Type 0} {Sound : Cells → Type 0} {past : ℕ → Files → Type 0}
     (stands : StandsFor state) (from_now : AllowedSince past before.moment state []) where
@@ -373,7 +374,7 @@ module _ {Faulty : ℕ → ℕ → Type 0} {told : Option (List World)} {state :
           Progress Faulty told state before after input left' pending' (number + 1) count' taken taken'' StandsThen Sound SoundThen past then
       goes_on_by {StandsThen} a = record {
         turns = p.turns ++ a.turns;
-        follows = all_follow Faulty told told_now state before now honest p.turns a.turns p.at_mark p.follows a.follows;
+        follows = all_follow Faulty told told_now state before now honest p.crash.sound p.turns a.turns p.at_mark p.follows a.follows;
         stands = subst StandsThen (sym (last_state-append state p.turns a.turns)) a.stands;
         at_mark = marks_on a.turns a.at_mark;
         crash = crash_on p.at_mark p.crash a.crash;
@@ -396,7 +397,7 @@ module _ {Faulty : ℕ → ℕ → Type 0} {told : Option (List World)} {state :
       played_unanswered {StandsThen} ending u = record {
         turns = p.turns ++ u.turns;
         shown = turn_replies p.turns ++ u.shown;
-        follows = all_follow Faulty told told_now state before now honest p.turns u.turns p.at_mark p.follows u.follows;
+        follows = all_follow Faulty told told_now state before now honest p.crash.sound p.turns u.turns p.at_mark p.follows u.follows;
         stands = subst StandsThen (sym (last_state-append state p.turns u.turns)) u.stands;
         at_mark = subst (λ m. EndsAt (NextReopens input (turn_lines (p.turns ++ u.turns))) ending m after) (sym (last_mark-append before p.turns u.turns ∙ ap (λ m. last_mark m u.turns) p.at_mark))
             (ends_on (λ says. subst (NextReopens input) (sym (turn_lines-append p.turns u.turns))

@@ -1,11 +1,11 @@
 -- Steps of the commands, and what their replies say.
-use Rattle.std.proofs.Common.{◌≡◌, ◌⊎◌, ◌<◌, ◌≤◌, ◌^◌, inl, inr, ℕ, MatchOption, true, false, List, length, take, Option, None, Some, refl, sym, ◌∙◌, ap, subst, arith, IsSomeAnd, IfSome, nat_lt, ◌==◌, if◌then◌else◌}
+use Rattle.std.proofs.Common.{◌≡◌, ◌⊎◌, ◌<◌, ◌≤◌, ◌^◌, inl, inr, ℕ, MatchOption, true, false, List, length, take, Option, None, Some, refl, sym, ◌∙◌, ap, subst, arith, IsSome, IsTrue, IfSome, option_map, is_some, nat_lt, ◌==◌, if◌then◌else◌}
 use Rattle.std.proofs.lemmas.Bool.{cases_eq, eq-eqb, ne_eqb}
 use Rattle.std.proofs.lemmas.Bool.Decides.{nat_tests}
 use Rattle.std.proofs.lemmas.Option.{same_Some}
 use Rattle.std.proofs.Math.Seq.{take-length}
 use Rattle.disk_model.specs.Worlds.{World, DraftPlace, draft_at}
-use Rattle.disk_model.specs.Causes.{FaultyOne}
+use Rattle.disk_model.specs.Causes.{Rose, FaultyOne}
 use Rattle.map_model.specs.Cells.{Replica, Cell, Cells, absent, final, growing, unsure, waiting}
 use Rattle.map_model.specs.Steps.{Reply as Answer, Step, CarriedOut, cell_after, success, start_write, push, finish, drop_write, write, read, delete, write_refusal, delete_refusal, half_deleted, content, done, no_block, is_writing, is_waiting, failed, memory, over, no_writer}
 use Rattle.pool_state.specs.declared.start_fault.StartFault.{StartFault}
@@ -13,17 +13,21 @@ use Rattle.pool_state.specs.declared.start_fault.StartFault.TheVariants.{Exists 
 use Rattle.pool_state.specs.declared.deleting.DeleteFault.{DeleteFault}
 use Rattle.pool_state.specs.declared.deleting.DeleteFault.TheVariants.{None as NotThere, Writing as IsWrittenNow, Failed as RemovalFailed}
 use Rattle.pool_state.specs.Answers.{unlimited, start_fault, delete_fault, GivenBetween}
-use Rattle.pool_state.specs.Writers.{Writer, FailedOf}
-use Rattle.pool_state.specs.Readers.{Lends, FaultyReader}
+use Rattle.meta_file.specs.declared.verdict.Verdict.{Verdict}
+use Rattle.meta_file.specs.declared.verdict.Verdict.TheVariants.{Whole}
+use Rattle.meta_file.specs.Verdicts.{verdict_of}
+use Rattle.pair_draft.specs.Checking.{IsOnLength}
+use Rattle.pair_draft.specs.Writers.{Writer, FailedOf}
+use Rattle.pool_state.specs.Readers.{Lends, IsFaulty}
 use Rattle.script_lang.specs.declared.reply.Reply.{Reply}
-use Rattle.script_lang.specs.declared.reply.Reply.TheVariants.{Data, Short}
+use Rattle.script_lang.specs.declared.reply.Reply.TheVariants.{Data}
 use Rattle.script_lang.specs.declared.Line.{Line}
 use Rattle.dn_play.specs.State.{Numbers, RunState, Mark}
 use Rattle.disk_model.specs.Files.{Files}
 use Rattle.dn_play.specs.Lines.{Does}
 use Rattle.dn_play.specs.Images.{CrashSafe}
-use Rattle.dn_play.specs.Commands.{Trust, any_disks, telling_disks, Says, Gives, begins_writer}
-use Rattle.dn_play.specs.Replies.{refusal_reply, deletion_reply}
+use Rattle.dn_play.specs.Commands.{Trust, any_disks, telling_disks, sound_disks, Says, Gives, begins_writer}
+use Rattle.dn_play.specs.Replies.{refusal_reply, deletion_reply, read_reply}
 use Rattle.dn_play.specs.Standing.{NotGrowing, IsKnown, LineCarried}
 
 -- the reply of a refused start
@@ -110,6 +114,14 @@ over_push stamp left bytes piece past = rw (passes left (length piece) past) (re
 pub memory_push : (stamp left : ℕ) (bytes piece : List ℕ) → length piece ≤ left → Step unlimited (growing stamp None bytes left) (push piece) memory (growing stamp None bytes left)
 memory_push stamp left bytes piece within = rw (fits left (length piece) within) refl
 
+-- a piece whose draft failed
+pub failed_push : (stamp left : ℕ) (bytes piece : List ℕ) → length piece ≤ left → Step unlimited (growing stamp None bytes left) (push piece) failed waiting
+failed_push stamp left bytes piece within = rw (fits left (length piece) within) refl
+
+-- a writer whose end failed
+pub failed_finish : (stamp left : ℕ) (bytes : List ℕ) → Step unlimited (growing stamp None bytes left) finish failed waiting
+failed_finish stamp left bytes = rw (fits left 0 (omega arith)) (inl refl)
+
 pub memory_finish : (stamp left : ℕ) (bytes : List ℕ) → Step unlimited (growing stamp None bytes left) finish memory (growing stamp None bytes left)
 memory_finish stamp left bytes = rw (fits left 0 (omega arith)) refl
 
@@ -131,20 +143,52 @@ module _ (cell : Cell) (replica : Replica) (is : cell ≡ final replica) where
   pub not_waiting : cell ≡ waiting → ⊥
   not_waiting waits = let bad : final replica ≡ waiting = sym is ∙ waits in cc
 
--- what a read gives
-pub gives_data : (told : Option (List World)) (cell : Cell) (stamp stamp' len : ℕ) (told_bytes : Option (List ℕ)) (bytes : List ℕ) → (lent : Lends told cell stamp len told_bytes) → stamp' ≡ stamp →
-    length bytes ≡ len → ((all : List ℕ) → told_bytes ≡ Some all → bytes ≡ take len all) → (trust : Trust) → IsKnown trust told → Gives trust lent.replica (Data stamp' bytes)
-gives_data told cell stamp stamp' len told_bytes bytes lent same whole front any_disks known = (same ∙ lent.stamp_is, whole ∙ lent.len_is)
-gives_data told cell stamp stamp' len told_bytes bytes lent same whole front telling_disks known =
-    let right : bytes ≡ lent.replica.bytes = front lent.replica.bytes (lent.bytes_are known) ∙ ap (λ n. take n lent.replica.bytes) lent.len_is ∙ take-length lent.replica.bytes in
-    ap (λ s. Data s bytes) (same ∙ lent.stamp_is) ∙ ap (λ b. Data lent.replica.stamp b) right
+-- what a read gives that isn't refused
+module _ {told : Option (List World)} {cell : Cell} {stamp len : ℕ} {block_bytes meta_bytes : Option (List ℕ)} (lent : Lends false told cell stamp len block_bytes meta_bytes) (Sound : Type 0) where
+  -- the replica was whole
+  pub gives_data : (stamp' : ℕ) (bytes : List ℕ) → stamp' ≡ stamp → length bytes ≡ len → ((all : List ℕ) → block_bytes ≡ Some all → bytes ≡ take len all) →
+      ((sums : List ℕ) → block_bytes ≡ Some lent.replica.bytes → meta_bytes ≡ Some sums → length sums < 2 ^ 64 → verdict_of sums lent.replica.bytes len ≡ Whole) →
+      (trust : Trust) → IsKnown Sound trust told → Gives trust lent.replica (Data stamp' bytes)
+  gives_data stamp' bytes same full front verified = by_trust
+    where
+      is_data : IsSome told → ◌≡◌ {A = Reply} (Data stamp' bytes) (Data lent.replica.stamp lent.replica.bytes)
+      is_data known =
+          let right : bytes ≡ lent.replica.bytes = front lent.replica.bytes (lent.bytes_are known) ∙ ap (λ n. take n lent.replica.bytes) lent.len_is ∙ take-length lent.replica.bytes in
+          ap (λ s. Data s bytes) (same ∙ lent.stamp_is) ∙ ap (λ b. Data lent.replica.stamp b) right
 
--- a block file that is shorter
-pub gives_short : (told : Option (List World)) (cell : Cell) (stamp len : ℕ) (told_bytes : Option (List ℕ)) (want have : ℕ) → (lent : Lends told cell stamp len told_bytes) →
-    want ≡ len → have < want → ((all : List ℕ) → told_bytes ≡ Some all → have ≡ length all) → (trust : Trust) → IsKnown trust told → Gives trust lent.replica (Short want have)
-gives_short told cell stamp len told_bytes want have lent same less ended any_disks known = (same ∙ lent.len_is, less)
-gives_short told cell stamp len told_bytes want have lent same less ended telling_disks known =
-    let end : have ≡ length lent.replica.bytes = ended lent.replica.bytes (lent.bytes_are known) in absurd (omega (arith, end, same, less, lent.len_is))
+      by_trust : (trust : Trust) → IsKnown Sound trust told → Gives trust lent.replica (Data stamp' bytes)
+      by_trust any_disks known = record { bytes = bytes; len = full ∙ lent.len_is; verdict = Whole; on_length = tt; reply_is = ap (λ s. Data s bytes) (same ∙ lent.stamp_is) }
+      by_trust telling_disks known =
+          let it = lent.meta_is known in
+          let whole = verified it.content (lent.bytes_are known) it.is it.few in
+          record {
+            meta = it.content;
+            reply_is = is_data known ∙ ap (read_reply lent.replica.stamp lent.replica.bytes) (sym (ap (verdict_of it.content lent.replica.bytes) (sym lent.len_is) ∙ whole));
+          }
+      by_trust sound_disks known = is_data known.0
+
+  -- it wasn't: such a verdict never comes of disks that began sound
+  pub gives_verdict : (verdict : Verdict) (reply : Reply) → ((s : ℕ) (bytes : List ℕ) → reply ≡ read_reply s bytes verdict) → IsOnLength len verdict →
+      ((sums : List ℕ) → block_bytes ≡ Some lent.replica.bytes → meta_bytes ≡ Some sums → length sums < 2 ^ 64 → verdict ≡ verdict_of sums lent.replica.bytes len) →
+      (IsSome told → Sound → ⊥) → (trust : Trust) → IsKnown Sound trust told → Gives trust lent.replica reply
+  gives_verdict verdict reply is on_length of never = by_trust
+    where
+      by_trust : (trust : Trust) → IsKnown Sound trust told → Gives trust lent.replica reply
+      by_trust any_disks known = record {
+        bytes = lent.replica.bytes;
+        len = refl;
+        verdict = verdict;
+        on_length = subst (λ n. IsOnLength n verdict) lent.len_is on_length;
+        reply_is = is lent.replica.stamp lent.replica.bytes;
+      }
+      by_trust telling_disks known =
+          let it = lent.meta_is known in
+          record {
+            meta = it.content;
+            reply_is = is lent.replica.stamp lent.replica.bytes
+                ∙ ap (read_reply lent.replica.stamp lent.replica.bytes) (of it.content (lent.bytes_are known) it.is it.few ∙ ap (verdict_of it.content lent.replica.bytes) lent.len_is);
+          }
+      by_trust sound_disks known = absurd (never known.0 known.1)
 
 -- the draft that failed is one of the writer's
 pub faulty_writer : {T : Type 0} (place : T → DraftPlace) (faults : T → ℕ) (w : Writer) (numbers : Numbers) (b m vol vol' : ℕ) (path path' : List ℕ) → w.block ≡ draft_at b vol path → w.meta ≡ Some (draft_at m vol' path') →
@@ -159,12 +203,28 @@ faulty_writer place faults w numbers b m vol vol' path path' block meta block_gi
           record { one = failed_one.one; faulty = failed_one.faulty; since = omega (arith, at, meta_given.since); before = omega (arith, at, meta_given.before) }
     ]
 
+-- a count that rose isn't zero
+pub rose_above : (old new : ℕ) → Rose old new → 0 < new
+rose_above old new rose = omega (arith, rose)
+
+-- and so is the draft of its block
+pub faulty_block : {T : Type 0} (place : T → DraftPlace) (faults : T → ℕ) (numbers : Numbers) (draft : T) (b vol : ℕ) (path : List ℕ) → place draft ≡ draft_at b vol path →
+    GivenBetween numbers.first numbers.last b → 0 < faults draft → FaultyOne (λ d. (place d).number) faults numbers.first numbers.last
+faulty_block place faults numbers draft b vol path is given faulty =
+    let at : (place draft).number ≡ b = ap (λ (d : DraftPlace). d.number) is in
+    record { one = draft; faulty = faulty; since = omega (arith, at, given.since); before = omega (arith, at, given.before) }
+
+-- a whole writer has the draft of its meta file
+pub has_meta : {T : Type 0} (place : T → DraftPlace) (o : Option T) (d : DraftPlace) → option_map place o ≡ Some d → IsTrue (is_some o)
+has_meta place None d is = absurd cc
+has_meta place (Some draft) d is = refl
+
 -- a growing cell isn't a waiting one
 pub grows_not : (cell : Cell) (stamp : ℕ) (bytes : List ℕ) (left : ℕ) → cell ≡ growing stamp None bytes left → cell ≡ waiting → ⊥
 grows_not cell stamp bytes left grows waits = let bad : growing stamp None bytes left ≡ waiting = sym grows ∙ waits in cc
 
 -- the reader that failed was lent in this command
-pub faulty_reader : {R : Type 0} (number_of faults_of : R → ℕ) (first last : ℕ) (o : Option R) → IsSomeAnd o (λ r. FaultyReader number_of faults_of (number_of r)) →
+pub faulty_reader : {R : Type 0} (number_of faults_of : R → ℕ) (first last : ℕ) (o : Option R) → IsFaulty number_of faults_of o →
     IfSome o (λ r. GivenBetween first last (number_of r)) → FaultyOne number_of faults_of first last
 faulty_reader number_of faults_of first last None failed_one lent = absurd failed_one
 faulty_reader number_of faults_of first last (Some r) failed_one lent =
@@ -285,7 +345,7 @@ only_failure cell after RemovalFailed free step = refl
 -- a line that is known
 pub carried : {Faulty : ℕ → ℕ → Type 0} {told : Option (List World)} {old : RunState} {before : Mark} {line known_line : Line} {reply : Reply} {after : Mark} {StandsFor : RunState → Type 0}
     {Sound SoundNow : Cells → Type 0} {past since : ℕ → Files → Type 0} →
-    line ≡ known_line → (new : RunState) → StandsFor new → ((trust : Trust) → IsKnown trust told → Does trust Faulty old before known_line reply new after) →
+    line ≡ known_line → (new : RunState) → StandsFor new → ((trust : Trust) → IsKnown (Sound old.cells) trust told → Does trust Faulty old before known_line reply new after) →
     CrashSafe old.cells new.cells Sound SoundNow past since → LineCarried Faulty told old before line reply after StandsFor Sound SoundNow past since
 carried {Faulty} {told} {old} {before} {line} {known_line} {reply} {after} is new stands does crash = record {
   new = new;

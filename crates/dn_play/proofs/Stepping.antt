@@ -12,7 +12,9 @@ use Rattle.map_model.specs.Stands.{Leftover}
 use Rattle.pool_state.specs.Answers.{unlimited, GivenBetween, StepsTo, TakesStep, IsQuiet}
 use Rattle.dn_play.specs.Images.{CrashSafe}
 use Rattle.pool_state.specs.Stands.{with_cell, PoolStands}
-use Rattle.pool_state.specs.Writers.{Writer, WriterStands, Keeps}
+use Rattle.pair_draft.specs.Writers.{Writer, Keeps}
+use Rattle.pool_state.specs.Writers.{WriterStands}
+use Rattle.pool_state.proofs.Belonging.{stands_elsewhere}
 use Rattle.script_lang.specs.declared.reply.Reply.{Reply}
 use Rattle.dn_play.specs.State.{Numbers, RunState, Mark}
 use Rattle.dn_play.specs.Commands.{Trust, Says, FailsBy, begins_writer, given}
@@ -43,12 +45,9 @@ open_on told told' entries entries' id cell numbers w honest same open_there = r
     block_number = open_there.stands.block_number;
     meta_number = open_there.stands.meta_number;
     entry = ap entries' open_there.of ∙ same ∙ ap entries (sym open_there.of) ∙ open_there.stands.entry;
-    len = open_there.stands.len;
-    within = open_there.stands.within;
     block = open_there.stands.block;
     meta = open_there.stands.meta;
-    block_bytes = λ tells. open_there.stands.block_bytes (honest tells);
-    meta_bytes = λ tells. open_there.stands.meta_bytes (honest tells);
+    pushed = (stands_elsewhere {entries' = entries} open_there.stands honest refl).pushed;
   };
   block_given = open_there.block_given;
   meta_given = open_there.meta_given;
@@ -168,15 +167,15 @@ same_meta old new m m' vol vol' path path' keeps was is = ap (λ (d : DraftPlace
 
 -- an open writer that went on
 pub open_goes_on : (told told' : Option (List World)) (entries entries' : ℕ → Option Entry) (id : ℕ) (cell cell' : Cell) (numbers : Numbers) (old new : Writer) (bytes : List ℕ) →
-    OpenWriter told entries id cell numbers old → Keeps old new → WriterStands told' entries' new bytes → cell' ≡ growing new.stamp None bytes (new.reserved - new.len) →
+    OpenWriter told entries id cell numbers old → Keeps old new → new.meta ≡ old.meta → WriterStands told' entries' new bytes → cell' ≡ growing new.stamp None bytes (new.reserved - new.len) →
     OpenWriter told' entries' id cell' numbers new
-open_goes_on told told' entries entries' id cell cell' numbers old new bytes was keeps stands grows = record {
+open_goes_on told told' entries entries' id cell cell' numbers old new bytes was keeps keeps_meta stands grows = record {
   of = keeps.id ∙ was.of;
   bytes = bytes;
   grows = grows;
   stands = stands;
   block_given = subst (GivenBetween numbers.first numbers.last) (sym (same_block old new _ _ _ _ _ _ keeps.block was.stands.block stands.block)) was.block_given;
-  meta_given = subst (GivenBetween numbers.first numbers.last) (sym (same_meta old new _ _ _ _ _ _ keeps.meta was.stands.meta stands.meta)) was.meta_given;
+  meta_given = subst (GivenBetween numbers.first numbers.last) (sym (same_meta old new _ _ _ _ _ _ keeps_meta was.stands.meta stands.meta)) was.meta_given;
 }
 
 -- the number of a draft that was made
@@ -222,7 +221,7 @@ crash_only sound = record { images = λ t image s. inl s; sound = sound; sound_i
 module _ {Faulty : ℕ → ℕ → Type 0} {told : Option (List World)} {old : RunState} {before after : Mark} {id : ℕ} {command : Command} {reply : Reply} {StandsFor : RunState → Type 0}
     {Sound SoundNow : Cells → Type 0} {past since : ℕ → Files → Type 0} where
   -- a command that leaves the state as it was
-  pub carried_same : StandsFor old → CrashSafe old.cells old.cells Sound SoundNow past since → (answer : Answer) → ((trust : Trust) → IsKnown trust told → Says trust answer reply) →
+  pub carried_same : StandsFor old → CrashSafe old.cells old.cells Sound SoundNow past since → (answer : Answer) → ((trust : Trust) → IsKnown (Sound old.cells) trust told → Says trust answer reply) →
       Step unlimited (old.cells id) command answer (old.cells id) → (answer ≡ failed → FailsBy Faulty before after (old.writers id) (old.cells id) command (old.cells id)) →
       (answer ≡ memory → old.cells id ≡ waiting → before.next_number < after.next_number) → begins_writer command answer ≡ false →
       CarriesOut Faulty told old before id command reply after StandsFor Sound SoundNow past since
@@ -242,7 +241,7 @@ module _ {Faulty : ℕ → ℕ → Type 0} {told : Option (List World)} {old : R
 
   -- a command that changes its block's cell
   pub carried : (cell : Cell) (numbers : ℕ → Numbers) → StandsFor (record { cells = with_cell old.cells id cell; writers = numbers }) →
-      CrashSafe old.cells (with_cell old.cells id cell) Sound SoundNow past since → (answer : Answer) → ((trust : Trust) → IsKnown trust told → Says trust answer reply) → Step unlimited (old.cells id) command answer cell →
+      CrashSafe old.cells (with_cell old.cells id cell) Sound SoundNow past since → (answer : Answer) → ((trust : Trust) → IsKnown (Sound old.cells) trust told → Says trust answer reply) → Step unlimited (old.cells id) command answer cell →
       (answer ≡ failed → FailsBy Faulty before after (old.writers id) (old.cells id) command cell) → (answer ≡ memory → cell ≡ waiting → before.next_number < after.next_number) →
       ((other : ℕ) → numbers other ≡ (if begins_writer command answer && other == id then given before after else old.writers other)) →
       CarriesOut Faulty told old before id command reply after StandsFor Sound SoundNow past since
@@ -265,7 +264,7 @@ module _ {Faulty : ℕ → ℕ → Type 0} {told : Option (List World)} {old : R
 
   -- a command that begins no writer
   pub carried_on : (cell : Cell) → StandsFor (record { cells = with_cell old.cells id cell; writers = old.writers }) →
-      CrashSafe old.cells (with_cell old.cells id cell) Sound SoundNow past since → (answer : Answer) → ((trust : Trust) → IsKnown trust told → Says trust answer reply) → Step unlimited (old.cells id) command answer cell →
+      CrashSafe old.cells (with_cell old.cells id cell) Sound SoundNow past since → (answer : Answer) → ((trust : Trust) → IsKnown (Sound old.cells) trust told → Says trust answer reply) → Step unlimited (old.cells id) command answer cell →
       (answer ≡ failed → FailsBy Faulty before after (old.writers id) (old.cells id) command cell) → (answer ≡ memory → cell ≡ waiting → before.next_number < after.next_number) →
       begins_writer command answer ≡ false → CarriesOut Faulty told old before id command reply after StandsFor Sound SoundNow past since
   carried_on cell stands crash answer says step fault lack begins =

@@ -29,7 +29,7 @@ pub record Answered (Faulty : ℕ → ℕ → Type 0) (told : Option (List World
     (StandsFor : RunState → Type 0) (Sound SoundNow : Cells → Type 0) (past since : ℕ → Files → Type 0) : Type 0 where
   pub turns : List Turn
   pub says : (number : ℕ) (rest : Script) → script_after number (line_of text) rest ≡ prepend (turn_lines turns) rest
-  pub follows : (trust : Trust) → IsKnown trust told → Follows trust Faulty state before turns
+  pub follows : (trust : Trust) → IsKnown (Sound state.cells) trust told → Follows trust Faulty state before turns
   pub stands : StandsFor (last_state state turns)
   pub at_mark : last_mark before turns ≡ after
   pub crash : LinesCrashSafe before state turns Sound SoundNow past since
@@ -90,7 +90,7 @@ pub record Unanswered (Faulty : ℕ → ℕ → Type 0) (told : Option (List Wor
   pub turns : List Turn
   pub shown : List Reply
   pub says : SaysUpTo number text (turn_lines turns) ending
-  pub follows : (trust : Trust) → IsKnown trust told → Follows trust Faulty state before turns
+  pub follows : (trust : Trust) → IsKnown (Sound state.cells) trust told → Follows trust Faulty state before turns
   pub stands : StandsFor (last_state state turns)
   pub at_mark : EndsAt (SaysReopen text (turn_lines turns)) ending (last_mark before turns) after
   pub crash : LinesCrashSafe before state turns Sound SoundNow past since
@@ -108,7 +108,7 @@ pub record Played (Faulty : ℕ → ℕ → Type 0) (told : Option (List World))
     (StandsFor : RunState → Type 0) (Sound SoundNow : Cells → Type 0) (past since : ℕ → Files → Type 0) : Type 0 where
   pub turns : List Turn
   pub shown : List Reply
-  pub follows : (trust : Trust) → IsKnown trust told → Follows trust Faulty state before turns
+  pub follows : (trust : Trust) → IsKnown (Sound state.cells) trust told → Follows trust Faulty state before turns
   pub stands : StandsFor (last_state state turns)
   pub at_mark : EndsAt (NextReopens input (turn_lines turns)) ending (last_mark before turns) after
   pub crash : LinesCrashSafe before state turns Sound SoundNow past since

@@ -9,13 +9,14 @@ use Rattle.map_model.specs.Cells.{Cells}
 use Rattle.map_model.specs.Steps.{start_write, push, finish, drop_write, write, read, delete, Reopened}
 use Rattle.pool_open.specs.Outcome.{IsOpened}
 use Rattle.dn_play.specs.State.{RunState, Mark, IsLater, Turn}
-use Rattle.dn_play.specs.Commands.{Trust, any_disks, telling_disks, CommandStep}
+use Rattle.dn_play.specs.Commands.{Trust, any_disks, telling_disks, sound_disks, CommandStep}
 
 -- what closing the pool and opening it again leaves of its cells: no writer is open, and where the disks tell, each cell is as it
 -- was found
 abbrev pub CellsReopened : Trust → Cells → Cells → Type 0
 CellsReopened any_disks old new = (id : ℕ) → IsBlockId id → IsOpened (new id)
 CellsReopened telling_disks old new = (id : ℕ) → IsBlockId id → Reopened (old id) (new id)
+CellsReopened sound_disks old new = (id : ℕ) → IsBlockId id → Reopened (old id) (new id)
 
 -- the line `reopen`
 pub record Reopens (trust : Trust) (old : RunState) (reply : Reply) (new : RunState) : Type 0 where

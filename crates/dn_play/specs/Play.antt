@@ -27,6 +27,10 @@ pub record Course : Type 0 where
   pub told : Option (List World)
   pub input : Option (List ℕ)
 
+-- the disks tell one image, in which the meta file of each copy that is read matches its bytes
+abbrev pub BeginsSound : Option (List World) → Type 0
+BeginsSound told = (start : Files) × HoldsImage told start × IsSound start
+
 -- the endings of a run whose opening isn't done
 abbrev pub IsBeforeOpened : Ending → Type 0
 IsBeforeOpened ending = (ending ≡ NoMemory) ⊎ ((ending ≡ OpenFault) ⊎ (ending ≡ Later 0))
@@ -56,7 +60,7 @@ pub record RunsLines (Faulty : ℕ → ℕ → Type 0) (since : ℕ → Files �
   pub one_meta : (start : Files) → HoldsImage course.told start → HasTwoMetas start → ⊥
   pub from_start : (start : Files) → HoldsImage course.told start → MakesCells (block_files start) first.cells
   pub counts : IsLater course.entry mark
-  pub follows : (trust : Trust) → IsKnown trust course.told → Follows trust Faulty first mark turns
+  pub follows : (trust : Trust) → IsKnown (BeginsSound course.told) trust course.told → Follows trust Faulty first mark turns
   pub at_exit : EndsAt (NextReopens course.input (turn_lines turns)) ending (last_mark mark turns) course.exit
   pub read : IfSome course.input (λ input. Reads input (turn_lines turns) ending)
   pub shows : Shows (turn_replies turns) ending shown

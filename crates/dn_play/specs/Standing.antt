@@ -15,13 +15,14 @@ use Rattle.pool_state.specs.declared.entry.Entry.{Entry}
 use Rattle.pool_state.specs.Answers.{GivenBetween}
 use Rattle.pool_state.specs.Books.{entry_at, found_at}
 use Rattle.pool_state.specs.Stands.{PoolStands, Stands}
-use Rattle.pool_state.specs.Writers.{Writer, WriterStands, writer_of}
+use Rattle.pair_draft.specs.Writers.{Writer, writer_of}
+use Rattle.pool_state.specs.Writers.{WriterStands}
 use Rattle.script_lang.specs.declared.reply.Reply.{Reply}
 use Rattle.script_lang.specs.declared.Line.{Line}
 use Rattle.script_lang.specs.declared.Line.TheVariants.{Reopen}
 use Rattle.dn_play.specs.declared.session.Session.{Session}
 use Rattle.dn_play.specs.State.{Numbers, RunState, Mark}
-use Rattle.dn_play.specs.Commands.{Trust, any_disks, telling_disks, CommandStep}
+use Rattle.dn_play.specs.Commands.{Trust, any_disks, telling_disks, sound_disks, CommandStep}
 use Rattle.dn_play.specs.Lines.{Does}
 use Rattle.dn_play.specs.Script.{is_carried}
 use Rattle.dn_play.specs.Images.{CrashSafe}
@@ -48,10 +49,11 @@ pub record Standing (told : Option (List World)) (volumes : ℕ) (entries : ℕ 
   pub pool : PoolStands told volumes entries found false state.cells
   pub writer : (id : ℕ) → IsBlockId id → MatchOption (writers id) (NotGrowing (state.cells id)) (OpenWriter told entries id (state.cells id) (state.writers id))
 
--- what must be known of the disks' content
-abbrev pub IsKnown : Trust → Option (List World) → Type 0
-IsKnown any_disks told = ⊤
-IsKnown telling_disks told = IsSome told
+-- what must be known of the disks: that they tell their content, and that it's sound
+abbrev pub IsKnown : (Sound : Type 0) → Trust → Option (List World) → Type 0
+IsKnown Sound any_disks told = ⊤
+IsKnown Sound telling_disks told = IsSome told
+IsKnown Sound sound_disks told = IsSome told × Sound
 
 -- the counts of a disk
 abbrev pub mark_of : {D : Type 0} → (faults next_number moment : D → ℕ) → D → Mark
@@ -90,7 +92,7 @@ pub record CarriesOut (Faulty : ℕ → ℕ → Type 0) (told : Option (List Wor
     (StandsFor : RunState → Type 0) (Sound SoundNow : Cells → Type 0) (past since : ℕ → Files → Type 0) : Type 0 where
   pub new : RunState
   pub stands : StandsFor new
-  pub step : (trust : Trust) → IsKnown trust told → CommandStep trust Faulty old before id command reply new after
+  pub step : (trust : Trust) → IsKnown (Sound old.cells) trust told → CommandStep trust Faulty old before id command reply new after
   pub crash : CrashSafe old.cells new.cells Sound SoundNow past since
 
 -- the line asks for something on one block
@@ -103,5 +105,5 @@ pub record LineCarried (Faulty : ℕ → ℕ → Type 0) (told : Option (List Wo
     (StandsFor : RunState → Type 0) (Sound SoundNow : Cells → Type 0) (past since : ℕ → Files → Type 0) : Type 0 where
   pub new : RunState
   pub stands : StandsFor new
-  pub does : (trust : Trust) → IsKnown trust told → Does trust Faulty old before line reply new after
+  pub does : (trust : Trust) → IsKnown (Sound old.cells) trust told → Does trust Faulty old before line reply new after
   pub crash : CrashSafe old.cells new.cells Sound SoundNow past since

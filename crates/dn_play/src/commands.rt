@@ -9,13 +9,18 @@ ghost use Rattle.dn_play.specs.Standing.{SessionStands, SoundFor, CarriesOut, Li
 
 use crate::refusals::{delete_refusal_of, refusal_of};
 use crate::session::Session;
+use crate::verdicts::verdict_reply_of;
+use client_ops::{ReadEnd, read_all};
 use disk_model::{Failed, PoolDisks};
-use pool_state::{ReadEnd, SealFault, read_all};
+use pool_state::{PushFault, SealFault};
 use script_lang::Line;
 use script_lang::bytes::Bytes;
 use script_lang::reply::Reply;
 use std::alloc::Global;
 use volume_layout::{BlockId, Stamp};
+
+/// How many bytes of a file are read at a time while it is verified.
+const BUFFER: usize = 65_536;
 
 impl<D: PoolDisks> Session<D> {
     /// Starts a write.
@@ -44,7 +49,7 @@ impl<D: PoolDisks> Session<D> {
         Reply::Done
     }
 
-    /// Adds a piece to what a writer writes.
+    /// Adds a piece to what a writer writes. Where its draft fails the writer is given up.
     pub fn push(&mut self, id: BlockId, piece: &[u8]) -> Reply
         requires stands { (state : RunState) × SessionStands D.worlds D.volume_count D.Draft.place D.Draft.bytes self.old state }
         ensures step { (state : RunState) → SessionStands D.worlds D.volume_count D.Draft.place D.Draft.bytes self.old state →
@@ -70,7 +75,15 @@ impl<D: PoolDisks> Session<D> {
                 self.writers.put(writer);
                 Reply::Done
             }
-            Err(_) => {
+            Err(PushFault::Failed) => {
+                self.pool.fail_write(writer);
+                Reply::Failed
+            }
+            Err(PushFault::Over { left }) => {
+                self.writers.put(writer);
+                Reply::Over { left }
+            }
+            Err(PushFault::Memory) => {
                 self.writers.put(writer);
                 Reply::Memory
             }
@@ -128,7 +141,7 @@ impl<D: PoolDisks> Session<D> {
         }
     }
 
-    /// Reads a replica.
+    /// Reads a replica that its meta file was compared with.
     pub fn read(&mut self, alloc: Global, id: BlockId) -> Reply
         requires stands { (state : RunState) × SessionStands D.worlds D.volume_count D.Draft.place D.Draft.bytes self.old state }
         ensures step { (state : RunState) → SessionStands D.worlds D.volume_count D.Draft.place D.Draft.bytes self.old state →
@@ -144,13 +157,16 @@ impl<D: PoolDisks> Session<D> {
             Err(fault) => return refusal_of(fault),
         };
         let stamp = pair.stamp.get();
-        match read_all(alloc, pair) {
+        let Ok(mut buf) = vec![in alloc; 0u8; BUFFER] else {
+            return Reply::Memory;
+        };
+        match read_all(alloc, pair, &mut buf) {
             Ok(bytes) => Reply::Data {
                 stamp,
                 bytes: Bytes::new(bytes),
             },
             Err(ReadEnd::Failed) => Reply::Failed,
-            Err(ReadEnd::Short { want, have }) => Reply::Short { want, have },
+            Err(ReadEnd::Bad(verdict)) => verdict_reply_of(verdict),
             Err(ReadEnd::Memory) => Reply::Memory,
         }
     }

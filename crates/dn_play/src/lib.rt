@@ -12,6 +12,7 @@ mod pool_run;
 mod refusals;
 mod reopening;
 mod session;
+mod verdicts;
 mod whole_writes;
 mod words;
 mod writers;
@@ -22,3 +23,5 @@ pub use playing::{Played, play};
 mod crash_tests;
 #[cfg(test)]
 mod tests;
+#[cfg(test)]
+mod verdict_tests;

@@ -1,7 +1,8 @@
-//! Why a start or a deletion was refused, as a reply.
+//! What a start, a deletion or a whole write answers, as a reply.
 ghost use Rattle.std.specs.Prelude.{◌≡◌};
-ghost use Rattle.dn_play.specs.Replies.{refusal_reply, deletion_reply};
+ghost use Rattle.dn_play.specs.Replies.{refusal_reply, deletion_reply, end_reply};
 
+use client_ops::OpReply;
 use pool_state::{DeleteFault, StartFault};
 use script_lang::reply::Reply;
 
@@ -28,5 +29,16 @@ pub fn delete_refusal_of(fault: DeleteFault) -> Reply
         DeleteFault::None => Reply::NoBlock,
         DeleteFault::Writing => Reply::Writing,
         DeleteFault::Failed => Reply::Failed,
+    }
+}
+
+/// The answer to a whole write, as a reply.
+pub fn end_reply_of(reply: OpReply) -> Reply
+    ensures { result ≡ end_reply reply }
+{
+    match reply {
+        OpReply::Ok => Reply::Done,
+        OpReply::Failed => Reply::Failed,
+        OpReply::Memory => Reply::Memory,
     }
 }

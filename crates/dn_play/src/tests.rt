@@ -172,7 +172,9 @@ fn calls_that_fail_are_answered(rt: HostRuntime) -> Result<(), Fail> {
         (Call::Append, 1, 0, "failed\nwaiting\nok\nnone\n"),
         (Call::Seal, 2, 0, "failed\nwaiting\nok\nnone\n"),
         (Call::Lend, 1, 0, "ok\nfailed\nok\nnone\n"),
+        (Call::Lend, 2, 0, "ok\nfailed\nok\nnone\n"),
         (Call::Read, 1, 0, "ok\nfailed\nok\nnone\n"),
+        (Call::Read, 2, 0, "ok\nfailed\nok\nnone\n"),
         (Call::Remove, 1, 0, "ok\ndata 1001 61\nfailed\nunsure\n"),
         (Call::Remove, 2, 0, "ok\ndata 1001 61\nfailed\nunsure\n"),
         (Call::List, 9, 6, "end open\n"),
@@ -184,6 +186,26 @@ fn calls_that_fail_are_answered(rt: HostRuntime) -> Result<(), Fail> {
         let run = play(alloc, words.as_slice(), disks, &mut source, &mut sink);
         assert_eq!(rt; run.status, want, "of {call:?} {nth}");
         assert_eq!(rt; sink.bytes(), replies.as_bytes(), "of {call:?} {nth}");
+    }
+    Ok(())
+}
+
+#[test]
+fn a_push_that_fails_gives_its_writer_up(rt: HostRuntime) -> Result<(), Fail> {
+    let alloc = rt.alloc();
+    let words = words_of(alloc, WORDS)?;
+    for (nth, replies) in [
+        (1, "ok\nfailed\nnowriter\nnowriter\nwaiting\nok\nnone\n"),
+        (2, "ok\nok\nfailed\nnowriter\nwaiting\nok\nnone\n"),
+        (3, "ok\nok\nok\nfailed\nwaiting\nok\nnone\n"),
+    ] {
+        let disks = failing_disks(alloc, Call::Append, nth)?;
+        let script = b"open 5 1001 2\npush 5 61\npush 5 62\nfinish 5\nread 5\ndelete 5\nread 5\n";
+        let mut source = PlainSource::make(script.to_vec(alloc)?);
+        let mut sink = PlainSink::make(alloc);
+        let run = play(alloc, words.as_slice(), disks, &mut source, &mut sink);
+        assert_eq!(rt; run.status, 0);
+        assert_eq!(rt; sink.bytes(), replies.as_bytes(), "of {nth}");
     }
     Ok(())
 }
@@ -229,7 +251,7 @@ fn openings_again_that_fail_end_a_run(rt: HostRuntime) -> Result<(), Fail> {
 
 // Puts a file on volume 1.
 #[tactic(auto, using(crate::proofs::PutFiles::put_aside))]
-fn put_file(disk: &mut MemDisks, path: &str, bytes: &[u8]) -> Result<(), AllocError>
+pub(crate) fn put_file(disk: &mut MemDisks, path: &str, bytes: &[u8]) -> Result<(), AllocError>
     requires one_volume { ⟦<MemDisks as PoolDisks>⟧.volume_count disk.old ≡ 1 }
     requires aside { InEachWorld (⟦<MemDisks as PoolDisks>⟧.worlds disk.old) DraftsAside }
     ensures one_volume { ⟦<MemDisks as PoolDisks>⟧.volume_count disk.new ≡ 1 }
@@ -266,7 +288,7 @@ fn stored_disks(alloc: Global) -> Result<Vec<MemDisks>, AllocError>
     put_file(
         &mut disk,
         "current/finalized/subdir0/subdir0/blk_5_1001.meta",
-        b"",
+        &[0, 1, 0, 0, 0, 2, 0],
     )?;
     put_file(&mut disk, "current/finalized/subdir0/subdir0/blk_6", b"hi")?;
     put_file(

@@ -5,17 +5,16 @@ ghost use Rattle.pool_state.specs.Stands.{GoesOn};
 ghost use Rattle.dn_play.specs.State.{RunState};
 ghost use Rattle.dn_play.specs.Standing.{SessionStands, SoundFor, CarriesOut, faulty_of, mark_of};
 
-use crate::refusals::refusal_of;
+use crate::refusals::{end_reply_of, refusal_of};
 use crate::session::Session;
+use client_ops::{op_end, op_fill, write_start};
 use disk_model::PoolDisks;
-use pool_state::SealFault;
 use script_lang::reply::Reply;
 use std::alloc::Global;
 use volume_layout::{BlockId, Stamp};
 
 impl<D: PoolDisks> Session<D> {
-    /// Writes a whole block: starts a write of its length, adds the bytes, and ends it. Where memory is wanting after the
-    /// start, the writer is dropped.
+    /// Writes a whole block: starts a write of its length, fills it, and ends it.
     pub fn write(&mut self, alloc: Global, id: BlockId, stamp: Stamp, piece: &[u8]) -> Reply
         requires stands { (state : RunState) × SessionStands D.worlds D.volume_count D.Draft.place D.Draft.bytes self.old state }
         ensures step { (state : RunState) → SessionStands D.worlds D.volume_count D.Draft.place D.Draft.bytes self.old state →
@@ -29,30 +28,11 @@ impl<D: PoolDisks> Session<D> {
         if let Some(fault) = self.pool.write_refusal(id) {
             return refusal_of(fault);
         }
-        let mut writer = match self.pool.start_write(alloc, id, stamp, piece.len() as u64) {
-            Ok(writer) => writer,
+        let op = match write_start(alloc, &mut self.pool, id, stamp, piece.len() as u64) {
+            Ok(op) => op,
             Err(fault) => return refusal_of(fault),
         };
-        match writer.push(piece) {
-            Ok(()) => {}
-            Err(_) => return match self.pool.drop_write(writer) {
-                Ok(()) => Reply::Memory,
-                Err(_) => Reply::Memory,
-            },
-        }
-        match writer.seal() {
-            Ok(pair) => match self.pool.finish(pair) {
-                Ok(()) => Reply::Done,
-                Err(_) => Reply::Failed,
-            },
-            Err((SealFault::Memory, writer)) => match self.pool.drop_write(writer) {
-                Ok(()) => Reply::Memory,
-                Err(_) => Reply::Memory,
-            },
-            Err((SealFault::Failed, writer)) => {
-                self.pool.fail_write(writer);
-                Reply::Failed
-            }
-        }
+        let filled = op_fill(op, piece);
+        end_reply_of(op_end(&mut self.pool, filled))
     }
 }

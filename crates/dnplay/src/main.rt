@@ -77,7 +77,7 @@ fn disks_of_words(rt: &HostRuntime, words: &[String]) -> Result<Vec<OsDisks>, Al
 /// Plays the script, and answers the exit status.
 ///
 /// The top call asks that on disks that tell their content each draft stands aside. These disks tell nothing.
-#[tactic(auto, using(os_disks::specs::Untold::untold_in_each_world))]
+#[tactic(auto, using(disk_model::specs::Untold::untold_in_each_world))]
 fn run<K: Sink>(rt: &HostRuntime, sink: &mut K) -> Result<u8, AllocError> {
     let words = command_words(rt)?;
     if let [word] = words.as_slice() {

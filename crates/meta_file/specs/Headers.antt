@@ -1,5 +1,5 @@
 -- The headers of meta files.
-use Rattle.std.specs.Prelude.{ℕ, ◌≤◌, ◌==◌, ◌&&◌, nat_lt, nat_le, not, List, [], ◌∷◌, ◌++◌, length, take, drop, slice_index, Result, Ok, Err, if◌then◌else◌}
+use Rattle.std.specs.Prelude.{ℕ, ◌≡◌, ◌≢◌, ◌<◌, ◌≤◌, ◌⊎◌, ◌==◌, ◌&&◌, nat_lt, nat_le, not, List, [], ◌∷◌, ◌++◌, length, take, drop, slice_index, Result, Ok, Err, if◌then◌else◌}
 use Rattle.byteorder.specs.Endian.{big_bytes}
 use Rattle.map_model.specs.Checksums.{big_endian}
 use Rattle.meta_file.specs.declared.header.Header.{Header}
@@ -11,6 +11,13 @@ pub record IsHeader (header : Header) : Type 0 where
   pub known : header.kind ≤ 2
   pub some : 1 ≤ header.step
   pub few : header.step ≤ 1048576
+
+-- what a fault tells is out of range
+abbrev pub IsHeaderFault : MetaFault → Type 0
+IsHeaderFault (Short have) = have < 7
+IsHeaderFault (Version v) = v ≢ 1
+IsHeaderFault (Kind t) = 2 < t
+IsHeaderFault (Step n) = (n ≡ 0) ⊎ (1048576 < n)
 
 -- the header of this type and step, or the first fault
 abbrev pub header_with : ℕ → ℕ → ℕ → Result Header MetaFault

@@ -1,7 +1,7 @@
 //! The headers of meta files: seven bytes, numbers big-endian.
-ghost use Rattle.std.specs.Prelude.{◌≡◌, ◌≤◌, ◌++◌, Ok, IfOk, length, take, drop};
+ghost use Rattle.std.specs.Prelude.{◌≡◌, ◌≤◌, ◌++◌, Ok, IfOk, IfErr, length, take, drop};
 ghost use Rattle.map_model.specs.Checksums.{HeaderIs, big_endian};
-ghost use Rattle.meta_file.specs.Headers.{IsHeader, header_of, header_bytes};
+ghost use Rattle.meta_file.specs.Headers.{IsHeader, IsHeaderFault, header_of, header_bytes};
 
 use byteorder::{BigEndian, ByteOrder};
 
@@ -58,6 +58,7 @@ pub fn read_header(bytes: &[u8]) -> Result<Header, MetaFault>
     ensures header { result ≡ header_of bytes.now }
     ensures stands { IfOk result (λ header. HeaderIs bytes.now header.kind header.step) }
     ensures in_range { IfOk result IsHeader }
+    ensures out_of_range { IfErr result IsHeaderFault }
 {
     if bytes.len() < HEADER_LEN {
         return Err(MetaFault::Short {

@@ -6,7 +6,7 @@
 ghost use Rattle.std.specs.Prelude.{◌≡◌, ◌≤◌, None, IfOk, IsTrue, All, length};
 ghost use Rattle.disk_model.specs.Names.{IsBelow, IsInOrder};
 ghost use Rattle.disk_model.specs.Causes.{Rose};
-ghost use Rattle.os_disks.specs.Untold.{untold_is_disk, untold_stands_within, untold_leaves_nothing};
+ghost use Rattle.disk_model.specs.Untold.{untold_is_disk, untold_stands_within, untold_leaves_nothing};
 
 use crate::durable;
 use crate::os_files::{OsDraft, OsReader, OsSealed};

@@ -1,4 +1,3 @@
 pub mod Files
 pub mod Checking
 pub mod Writers
-pub mod Untold

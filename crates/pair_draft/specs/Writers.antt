@@ -1,5 +1,5 @@
 -- Writers and sealed pairs: what they hold, and the bytes that were pushed.
-use Rattle.std.specs.Prelude.{ℕ, ◌≡◌, ◌<◌, ◌≤◌, ◌⊎◌, List, [], ◌∷◌, ◌++◌, length, Option, Some, IsSome, option_map, option_and_then}
+use Rattle.std.specs.Prelude.{ℕ, ◌≡◌, ◌<◌, ◌≤◌, ◌⊎◌, List, [], ◌∷◌, ◌++◌, length, Option, Some, IsSome, option_map, option_and_then, box_value}
 use Rattle.disk_model.specs.Worlds.{World, DraftPlace}
 use Rattle.map_model.specs.Checksums.{castagnoli, HasSums, Matches}
 use Rattle.meta_file.specs.Sums.{Progress, Summed}
@@ -40,7 +40,7 @@ module _ {D S T R : Type 0} where
     vol = w.vol;
     len = w.len;
     reserved = w.reserved;
-    progress = w.summer;
+    progress = box_value w.summer;
     sums = w.sums.items;
     block = place w.block;
     block_bytes = bytes w.block;
@@ -64,6 +64,12 @@ module _ {D S T R : Type 0} where
 -- the header of a meta file with checksums: version 1, type 2, 512 bytes a checksum
 abbrev pub meta_header : List ℕ
 meta_header = 0 ∷ 1 ∷ 2 ∷ 0 ∷ 0 ∷ 2 ∷ 0 ∷ []
+
+-- nothing was taken in yet, of a meta file of type 2 and 512 bytes a checksum
+pub record IsFresh (p : Progress) : Type 0 where
+  pub kind : p.kind ≡ 2
+  pub step : p.step ≡ 512
+  pub summed : Summed p [] []
 
 -- These bytes were pushed: where the disks tell, they stand in the block's draft, and nothing in that of the meta file.
 pub record HasPushed (told : Option (List World)) (w : Writer) (bytes : List ℕ) : Type 0 where

@@ -1,7 +1,7 @@
 //! Files in memory for tests, whose calls fail from a stated one on. Their counts of faults stand at their end.
 ghost use Rattle.std.specs.Prelude.{◌≡◌, ◌<◌, ◌-◌, ◌^◌, [], None, Some};
 ghost use Rattle.disk_model.specs.Worlds.{draft_at};
-ghost use Rattle.pair_draft.specs.Untold.{untold_is_disk, untold_stands_within, untold_leaves_nothing};
+ghost use Rattle.disk_model.specs.Untold.{untold_is_disk, untold_stands_within, untold_leaves_nothing};
 
 use disk_model::{DiskError, Draft, Failed, Names, PoolDisks, Reader, SealedDraft};
 use std::alloc::Global;

@@ -8,7 +8,7 @@ mod writer;
 mod writing;
 
 pub use verification::verify;
-pub use writer::{SealedPair, Writing};
+pub use writer::{SealedPair, Sums, Writing};
 pub use writing::{PushFault, SealFault, reserve_sums};
 
 #[cfg(test)]

@@ -1,12 +1,12 @@
 //! Whether a block has the bytes that its meta file tells of.
-ghost use Rattle.std.specs.Prelude.{◌≡◌, ◌+◌, ◌*◌, ◌^◌, ◌<◌, ◌≤◌, ◌⊎◌, List, ℕ, length, drop, Some, None, Ok, IfOk, IsErr};
+ghost use Rattle.std.specs.Prelude.{◌≡◌, ◌+◌, ◌*◌, ◌^◌, ◌<◌, ◌≤◌, ◌⊎◌, List, ℕ, length, drop, Some, None, Ok, IfOk, IfSome, IsErr};
 ghost use Rattle.disk_model.specs.Causes.{Rose, HasCause};
 ghost use Rattle.map_model.specs.Checksums.{chunk_count};
 ghost use Rattle.meta_file.specs.Headers.{IsHeader, header_of};
 ghost use Rattle.meta_file.specs.Sums.{polynomial};
 ghost use Rattle.meta_file.specs.Verdicts.{length_verdict, sums_verdict, verdict_of};
 ghost use Rattle.pair_draft.specs.Files.{file_bytes, file_faults, SameFile};
-ghost use Rattle.pair_draft.specs.Checking.{IsUnderWay, IsSameCheck, Agrees, PieceAnswer, CountAnswer};
+ghost use Rattle.pair_draft.specs.Checking.{IsUnderWay, IsSameCheck, Agrees, PieceAnswer, CountAnswer, IsOnLength};
 
 use crate::checker::{BATCH, Checker};
 use crate::files::{count_from, read_full};
@@ -41,6 +41,7 @@ fn check_piece<R: Reader>(
         length sums ≡ 7 + 4 * chunk_count checker.old.summer.step checker.old.len →
         Agrees checker.old (drop 7 sums) all →
         IfOk result (PieceAnswer checker.old checker.new (drop 7 sums) all) }
+    ensures on_length { IfOk result (λ found. IfSome found (IsOnLength checker.old.len)) }
 {
     let most = ((BATCH - 1) * checker.step as usize).min(buf.len());
     let want = most.min((checker.len - checker.at) as usize);
@@ -87,6 +88,7 @@ fn check_chunks<R: Reader>(
     ensures verdict { (all sums : List ℕ) → file_bytes R.bytes block.old ≡ Some all → file_bytes R.bytes meta.old ≡ Some sums →
         length sums ≡ 7 + 4 * chunk_count header.step len →
         IfOk result (λ verdict. verdict ≡ sums_verdict (polynomial header.kind) header.step (drop 7 sums) all len) }
+    ensures on_length { IfOk result (IsOnLength len) }
 {
     let mut checker = Checker::new(header, len);
     'pieces: while checker.at < len {
@@ -111,6 +113,7 @@ fn check_count<R: Reader>(
     ensures counted { result ≡ Ok None → 7 + 4 * chunk_count step len < 2 ^ 64 }
     ensures answer { (sums : List ℕ) → file_bytes R.bytes meta.old ≡ Some sums → length sums < 2 ^ 64 →
         IfOk result (CountAnswer (4 * chunk_count step len) (length (drop 7 sums))) }
+    ensures on_length { IfOk result (λ found. IfSome found (IsOnLength len)) }
 {
     let want = 4 * ((u128::from(len) + u128::from(step - 1)) / u128::from(step));
     let most = (want + 1).min(u128::from(u64::MAX - SUMS_AT)) as u64;
@@ -145,6 +148,7 @@ fn check_length<R: Reader>(
     ensures cause { HasCause (file_faults R.faults block.old) (file_faults R.faults block.new) (IsErr result) }
     ensures verdict { (all : List ℕ) → file_bytes R.bytes block.old ≡ Some all →
         IfOk result (λ verdict. verdict ≡ length_verdict len (length all)) }
+    ensures on_length { IfOk result (IsOnLength len) }
 {
     let have = count_from(block, 0, len, buf)?;
     if have < len {
@@ -167,6 +171,7 @@ pub fn verify<R: Reader>(
     ensures verdict { (block_bytes meta_bytes : List ℕ) → file_bytes R.bytes block.old ≡ Some block_bytes →
         file_bytes R.bytes meta.old ≡ Some meta_bytes → length meta_bytes < 2 ^ 64 →
         IfOk result (λ verdict. verdict ≡ verdict_of meta_bytes block_bytes len) }
+    ensures on_length { IfOk result (IsOnLength len) }
     ensures block { SameFile R.number R.bytes block.old block.new }
     ensures meta { SameFile R.number R.bytes meta.old meta.new }
     ensures block_later { file_faults R.faults block.old ≤ file_faults R.faults block.new }

@@ -14,13 +14,21 @@ pub struct Writing<D: PoolDisks> {
     pub len: u64,
     /// How many bytes it may have in all.
     pub reserved: u64,
-    /// Has the checksum of the chunk that isn't full yet.
-    pub summer: Summer,
+    /// Has the checksum of the chunk that isn't full yet. Its tables take 8 KiB, which a writer that is moved needn't take along.
+    pub summer: Box<Summer>,
     /// The header of the meta file, and the checksums of the chunks that are full.
     pub sums: Vec<u8>,
     pub block: D::Draft,
     /// The draft of the meta file, unless a push or a seal failed.
     pub meta: Option<D::Draft>,
+}
+
+/// Memory for the meta file of a block.
+#[derive(Drop)]
+pub struct Sums {
+    pub summer: Box<Summer>,
+    /// The header of the meta file, with room for all checksums.
+    pub bytes: Vec<u8>,
 }
 
 /// A writer whose bytes were made sure of.

@@ -1,14 +1,15 @@
 //! What a writer does: pushing bytes, and sealing its two drafts.
 ghost use Rattle.std.specs.Prelude.{◌≡◌, ◌+◌, ◌*◌, ◌-◌, ◌<◌, ◌≤◌, ◌++◌, [], List, ℕ, length, IfOk, IfErr, OnOk, OnErr, IsErrOf, IsOk, Option, Some, None, Ok, Err, IsSome, IsTrue, is_some};
+ghost use Rattle.std.specs.Prelude.{box_value};
 ghost use Rattle.std.specs.Vec.{vec_capacity};
 ghost use Rattle.disk_model.specs.Causes.{Rose};
 ghost use Rattle.disk_model.specs.Worlds.{World};
 ghost use Rattle.map_model.specs.Checksums.{chunk_count};
-ghost use Rattle.pair_draft.specs.Writers.{writer_of, pair_of, meta_header, HasPushed, HasWritten, HasSealed, FailedOf, Keeps};
+ghost use Rattle.pair_draft.specs.Writers.{writer_of, pair_of, meta_header, IsFresh, HasPushed, HasWritten, HasSealed, FailedOf, Keeps};
 ghost use Rattle.pair_draft.specs.declared.writing.PushFault.TheVariants.{Over};
 ghost use Rattle.pair_draft.specs.declared.writing.SealFault.TheVariants.{Failed, Memory};
 
-use crate::writer::{SealedPair, Writing};
+use crate::writer::{SealedPair, Sums, Writing};
 use disk_model::{DiskError, Draft, PoolDisks};
 use meta_file::{Header, Summer, write_header};
 use std::alloc::{AllocError, Global};
@@ -38,15 +39,17 @@ pub enum SealFault {
 }
 
 /// Memory for the meta file of a block of at most so many bytes, which begins with its header.
-pub fn reserve_sums(alloc: Global, need: u64) -> Result<Vec<u8>, AllocError>
-    ensures header { IfOk result (λ sums. sums.items ≡ meta_header) }
-    ensures room { IfOk result (λ sums. 7 + 4 * chunk_count 512 need ≤ vec_capacity sums) }
+pub fn reserve_sums(alloc: Global, need: u64) -> Result<Sums, AllocError>
+    ensures header { IfOk result (λ sums. sums.bytes.items ≡ meta_header) }
+    ensures room { IfOk result (λ sums. 7 + 4 * chunk_count 512 need ≤ vec_capacity sums.bytes) }
+    ensures start { IfOk result (λ sums. IsFresh (box_value sums.summer)) }
 {
     let header = write_header(HEADER);
     let chunks = need / u64::from(HEADER.step) + 1;
-    let mut sums = Vec::with_capacity(alloc, header.len() + 4 * chunks as usize)?;
-    sums.extend_from_slice(&header)?;
-    Ok(sums)
+    let mut bytes = Vec::with_capacity(alloc, header.len() + 4 * chunks as usize)?;
+    bytes.extend_from_slice(&header)?;
+    let summer = Box::new(alloc, Summer::new(HEADER))?;
+    Ok(Sums { summer, bytes })
 }
 
 impl<D: PoolDisks> Writing<D> {
@@ -56,11 +59,12 @@ impl<D: PoolDisks> Writing<D> {
         stamp: Stamp,
         vol: u8,
         reserved: u64,
-        sums: Vec<u8>,
+        sums: Sums,
         block: D::Draft,
         meta: D::Draft,
     ) -> Writing<D>
-        requires { sums.items ≡ meta_header }
+        requires header { sums.bytes.items ≡ meta_header }
+        requires start { IsFresh (box_value sums.summer) }
         ensures id { result.id ≡ id }
         ensures stamp { result.stamp ≡ stamp }
         ensures vol { result.vol ≡ vol }
@@ -77,8 +81,8 @@ impl<D: PoolDisks> Writing<D> {
             vol,
             len: 0,
             reserved,
-            summer: Summer::new(HEADER),
-            sums,
+            summer: sums.summer,
+            sums: sums.bytes,
             block,
             meta: Some(meta),
         }

@@ -1,6 +1,5 @@
 -- What the end of a fresh write leaves, at each of its exits.
 use Rattle.std.proofs.Common.{◌≡◌, inl, inr, ℕ, ◌==◌, if◌then◌else◌, ◌⊎◌, ◌++◌, Bool, true, false, List, [], length, Option, None, Some, refl, sym, ◌∙◌, ap, subst, arith, IsTrue, IfSome, IsSome, option_map, nat_lt, unwrap_or}
-use Rattle.std.proofs.Common.{lit≤}
 use Rattle.std.proofs.lemmas.Bool.{false≢true}
 use Rattle.std.proofs.lemmas.Bool.Decides.{nat_tests}
 use Rattle.disk_model.specs.Worlds.{World, HasDraft, DraftPlace, draft_at, published}
@@ -9,7 +8,6 @@ use Rattle.disk_model.proofs.Laws.{is_told}
 use Rattle.volume_layout.specs.Paths.{IsBlockId}
 use Rattle.volume_layout.proofs.Reading.{is_stamp-IsStamp}
 use Rattle.map_model.specs.Cells.{Replica, Cell, Cells, absent, final, growing, unsure, waiting}
-use Rattle.map_model.specs.Checksums.{Matches}
 use Rattle.map_model.specs.Sound.{MatchesIf}
 use Rattle.map_model.specs.Allows.{Allows}
 use Rattle.map_model.specs.Steps.{Step, CarriedOut, finish, drop_write, Reply}
@@ -25,21 +23,23 @@ use Rattle.pool_state.specs.declared.entry.State.TheVariants.{Finalised, Writing
 use Rattle.pool_state.specs.Answers.{unlimited, IsWritingState, IsWritten}
 use Rattle.pool_state.specs.Books.{entry_state, book_entry, left_in, block_books, with_state}
 use Rattle.pool_state.specs.Stands.{with_cell, IsVolume, IsNoWait, IsNotWaiting, PoolStands}
-use Rattle.pool_state.specs.Writers.{Pair, PairStands, meta_header}
+use Rattle.pair_draft.specs.Writers.{Pair, meta_header}
+use Rattle.pair_draft.specs.Writers as drafts
+use Rattle.pool_state.specs.Writers.{PairStands}
 use Rattle.pool_state.specs.Writers as writers
 use Rattle.pool_state.specs.Reaching.{Reaches, ComesFrom}
 use Rattle.pool_state.proofs.Reaching.{reaches_published, reaches_publish}
 use Rattle.pool_state.proofs.Changing.{pool_stands, found_kept}
 use Rattle.pool_state.proofs.Showing.{Passes, at_books, passes_end}
 
--- a meta file without checksums matches any bytes
-pub header_matches : (bytes : List ℕ) → Matches meta_header bytes
-header_matches bytes = (0, 512, record { whole = lit≤ tt; version = refl; kind_is = refl; step_is = refl; in_range = (lit≤ tt, lit≤ tt, lit≤ tt) }, tt)
+-- the bytes of a sealed pair's meta file
+abbrev pub meta_of : {told : Option (List World)} {entries : ℕ → Option Entry} {p : Pair} {bytes : List ℕ} → PairStands told entries p bytes → List ℕ
+meta_of belongs = meta_header ++ belongs.sealed.sums
 
--- and so it does where the disks began sound, and where they did not
-pub header_matches_if : (sound : Bool) (bytes : List ℕ) → MatchesIf sound meta_header bytes
-header_matches_if true bytes = header_matches bytes
-header_matches_if false bytes = tt
+-- which match the block's, whether the disks began sound or not
+meta_matches : (sound : Bool) {told : Option (List World)} {entries : ℕ → Option Entry} {p : Pair} {bytes : List ℕ} (belongs : PairStands told entries p bytes) → MatchesIf sound (meta_of belongs) bytes
+meta_matches true belongs = belongs.sealed.of_bytes.matches
+meta_matches false belongs = tt
 
 -- more is known of a step where the disks tell
 pub reaches_told : (id : ℕ) (step other : View → View → Type 0) (old new : Option (List World)) → Reaches id step old new →
@@ -120,10 +120,10 @@ module _ {told : Option (List World)} {volumes : ℕ} {entries : ℕ → Option 
       (view_drafted world p.id p.vol (writing_meta p.stamp) (is_stamp-IsStamp p.stamp belongs.valid.1) belongs.meta_number (written_in world is).writer.1)
 
   -- and the block's once the meta is published
-  pub block_stands : (told' : Option (List World)) → Reaches p.id (λ before after. after ≡ publish_in before p.vol (writing_meta p.stamp) (meta p.stamp) meta_header) told told' →
+  pub block_stands : (told' : Option (List World)) → Reaches p.id (λ before after. after ≡ publish_in before p.vol (writing_meta p.stamp) (meta p.stamp) (meta_of belongs)) told told' →
       StillStands told' p.block
   block_stands told' reaches world is =
-      let from : ComesFrom p.id (λ before after. after ≡ publish_in before p.vol (writing_meta p.stamp) (meta p.stamp) meta_header) told world = reaches.each world is in
+      let from : ComesFrom p.id (λ before after. after ≡ publish_in before p.vol (writing_meta p.stamp) (meta p.stamp) (meta_of belongs)) told world = reaches.each world is in
       let there : view_of from.was p.id p.vol writing_block ≡ drafted belongs.block_number = (written_in from.was from.is).writer.0 in
       subst (HasDraft world) (sym belongs.block)
       (view_drafted world p.id p.vol writing_block refl belongs.block_number
@@ -150,14 +150,14 @@ module _ {told : Option (List World)} {volumes : ℕ} {entries : ℕ → Option 
     placed = subst (λ (e : Option Entry). IfSome e (λ x. IsVolume volumes x.vol)) belongs.entry (stands.placed p.id belongs.valid.0)
 
     module _ (step : View → View → Type 0)
-        (ends : (before after : View) → step before after → FinishesFresh before (found p.id) None writer meta_header bytes after
+        (ends : (before after : View) → step before after → FinishesFresh before (found p.id) None writer (meta_of belongs) bytes after
         (books_of (Some (writer_entry writer (in_doubt None))) (found p.id) None) (unsure None (Some new) false)) where
       -- a publish failed: the block is in doubt
       doubt_own : (before after : View) → step before after → BlockStands (MatchesIf sound) before (block_books (entries p.id) (found p.id)) (cells p.id) →
           BlockStands (MatchesIf sound) after (block_books (Some (with_state Unsure entry)) (found p.id)) (unsure None (Some new) false)
-      doubt_own before after stepped own = finish_fresh_stands (MatchesIf sound) before (found p.id) None writer meta_header bytes left after
+      doubt_own before after stepped own = finish_fresh_stands (MatchesIf sound) before (found p.id) None writer (meta_of belongs) bytes left after
           (books_of (Some (writer_entry writer (in_doubt None))) (found p.id) None) (unsure None (Some new) false)
-          (own_growing before own) (header_matches_if sound bytes) (ends before after stepped)
+          (own_growing before own) (meta_matches sound belongs) (ends before after stepped)
 
       pub doubt_passes : Passes stands p.id belongs.valid.0 step (unsure None (Some new) false)
       doubt_passes = passes_end stands p.id belongs.valid.0 step (unsure None (Some new) false) (Some (with_state Unsure entry)) (found p.id) (λ e. no_files) doubt_own
@@ -178,16 +178,16 @@ module _ {told : Option (List World)} {volumes : ℕ} {entries : ℕ → Option 
             (found_kept p.id found found' same_found) tt placed (stands.found_placed p.id belongs.valid.0) (λ e. no_files) doubt_own
 
     -- both were done: the block is final
-    module _ (step : View → View → Type 0) (ends : (before after : View) → step before after → after ≡ both_published before writer meta_header bytes) where
+    module _ (step : View → View → Type 0) (ends : (before after : View) → step before after → after ≡ both_published before writer (meta_of belongs) bytes) where
       final_own : (before after : View) → step before after → BlockStands (MatchesIf sound) before (block_books (entries p.id) (found p.id)) (cells p.id) →
           BlockStands (MatchesIf sound) after (block_books (Some whole) (found p.id)) (final new)
       final_own before after stepped own =
-          subst (λ n. BlockStands (MatchesIf sound) after (block_books (Some (record whole { len = n })) (found p.id)) (final new)) (sym belongs.len)
+          subst (λ n. BlockStands (MatchesIf sound) after (block_books (Some (record whole { len = n })) (found p.id)) (final new)) (sym belongs.sealed.len)
           (subst (λ v. BlockStands (MatchesIf sound) v (books_of (Some (final_entry writer (length bytes))) (found p.id) None) (final (new_replica writer bytes)))
           (sym (ends before after stepped))
-          (finish_fresh_stands (MatchesIf sound) before (found p.id) None writer meta_header bytes left (both_published before writer meta_header bytes)
+          (finish_fresh_stands (MatchesIf sound) before (found p.id) None writer (meta_of belongs) bytes left (both_published before writer (meta_of belongs) bytes)
           (books_of (Some (final_entry writer (length bytes))) (found p.id) None) (final (new_replica writer bytes))
-          (own_growing before own) (header_matches_if sound bytes) finished))
+          (own_growing before own) (meta_matches sound belongs) finished))
 
       pub final_passes : Passes stands p.id belongs.valid.0 step (final new)
       final_passes = passes_end stands p.id belongs.valid.0 step (final new) (Some whole) (found p.id) (λ e. no_files) final_own
@@ -198,12 +198,12 @@ module _ {told : Option (List World)} {volumes : ℕ} {entries : ℕ → Option 
             ((other : ℕ) → entries' other ≡ (if other == p.id then Some whole else entries other)) →
             PoolStands told' volumes' entries' found' sound (with_cell cells p.id (final new))
         finish_ends reaches changed = pool_stands stands p.id belongs.valid.0 step reaches same_volumes (Some whole) (found p.id) (final new)
-            changed (found_kept p.id found found' same_found) (refl, refl, belongs.len) placed (stands.found_placed p.id belongs.valid.0) (λ e. no_files) final_own
+            changed (found_kept p.id found found' same_found) (refl, refl, belongs.sealed.len) placed (stands.found_placed p.id belongs.valid.0) (λ e. no_files) final_own
 
 -- a writer's drafts stand on one of the volumes
 pub writer_placed : {told : Option (List World)} {volumes : ℕ} {entries : ℕ → Option Entry} {found : ℕ → List Leftover} {sound : Bool} {cells : Cells} →
-    PoolStands told volumes entries found sound cells → (w : writers.Writer) (bytes : List ℕ) → writers.WriterStands told entries w bytes → IsVolume volumes w.vol
-writer_placed {volumes = volumes} stands w bytes belongs =
+    PoolStands told volumes entries found sound cells → (w : drafts.Writer) → writers.WriterBelongs entries w → IsVolume volumes w.vol
+writer_placed {volumes = volumes} stands w belongs =
     subst (λ (o : Option Entry). IfSome o (λ x. IsVolume volumes x.vol)) belongs.entry (stands.placed w.id belongs.valid.0)
 
 -- A fresh writer that is given up, or is being dropped: its block waits, or is absent.

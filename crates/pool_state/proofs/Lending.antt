@@ -1,6 +1,6 @@
 -- What the start of a read lends.
-use Rattle.std.proofs.Common.{◌≡◌, ◌≤◌, ℕ, Bool, List, length, Option, None, Some, Result, Ok, refl, sym, ◌∙◌, ap, subst, IsSome, IfSome, option_map}
-use Rattle.disk_model.specs.Worlds.{World, IsAbsent}
+use Rattle.std.proofs.Common.{◌≡◌, ◌≤◌, ◌<◌, ◌^◌, ℕ, Bool, true, false, if◌then◌else◌, List, length, Option, None, Some, refl, sym, ◌∙◌, ap, subst, IsSome, IsTrue, IfSome, option_map}
+use Rattle.disk_model.specs.Worlds.{World}
 use Rattle.disk_model.specs.Files.{Files}
 use Rattle.disk_model.specs.Told.{IsWorldOf, CanLeave, PicksOne, StandsBeforeOrAfter, NoDraftAt}
 use Rattle.disk_model.proofs.Laws.{told_list, each_after_failed}
@@ -8,8 +8,8 @@ use Rattle.volume_layout.specs.Paths.{IsBlockId}
 use Rattle.map_model.specs.World.{DraftsAside}
 use Rattle.map_model.specs.Cells.{Replica, Cell, Cells, absent, final, growing, unsure, waiting}
 use Rattle.map_model.specs.Sound.{MatchesIf}
-use Rattle.map_model.specs.Slots.{block, path_of, view_of}
-use Rattle.map_model.specs.Stands.{Agrees, Leftover, Each, WritesOver, IsInDoubt, is_final, is_waiting, BlockStands}
+use Rattle.map_model.specs.Slots.{File, block, meta, Slot, empty, holds, path_of, is_file, is_aside_file, slot_at, view_of}
+use Rattle.map_model.specs.Stands.{Agrees, Leftover, Each, WritesOver, IsInDoubt, is_final, is_waiting, PairStands, BlockStands}
 use Rattle.map_model.proofs.Aside.{aside_no_draft}
 use Rattle.map_model.proofs.Bridge.{view_holds}
 use Rattle.pool_state.specs.declared.entry.Entry.{Entry}
@@ -21,7 +21,7 @@ use Rattle.map_model.proofs.LawProofs.{stands_allows}
 use Rattle.map_model.proofs.Soundness.{stands_is_sound}
 use Rattle.pool_state.proofs.Whole.{leaves_whole}
 use Rattle.pool_state.proofs.Showing.{Quiet}
-use Rattle.pool_state.specs.Readers.{reader_bytes, Lends}
+use Rattle.pool_state.specs.Readers.{reader_bytes, IsMetaOf, Lends, file_of}
 
 -- a call that only looks leaves what stands
 pub stands_looked : (told told' : Option (List World)) (volumes volumes' : ℕ) (entries : ℕ → Option Entry) (found : ℕ → List Leftover) (sound : Bool) (cells : Cells) →
@@ -50,9 +50,10 @@ looked_images {told' = told'} {entries = entries} {found = found} {sound = sound
       whole = leaves_whole stands image leaves;
     }
 
--- no draft stands at a finalised block
-pub lend_free : {told : Option (List World)} {volumes : ℕ} {entries : ℕ → Option Entry} {found : ℕ → List Leftover} {sound : Bool} {cells : Cells} → PoolStands told volumes entries found sound cells → (id vol : ℕ) → NoDraftAt told vol (path_of id block)
-lend_free stands id vol world is = aside_no_draft id vol block world refl (stands.aside world is)
+-- no draft stands at a finalised file
+pub lend_free : {told : Option (List World)} {volumes : ℕ} {entries : ℕ → Option Entry} {found : ℕ → List Leftover} {sound : Bool} {cells : Cells} → PoolStands told volumes entries found sound cells →
+    (id vol : ℕ) (f : File) → is_aside_file f ≡ false → NoDraftAt told vol (path_of id f)
+lend_free stands id vol f apart world is = aside_no_draft id vol f world apart (stands.aside world is)
 
 -- the entry of a replica is that of a final cell
 pub final_cell : (cell : Cell) (e : Entry) → e.state ≡ Finalised → Agrees (Some (book_entry e)) cell → (replica : Replica) × (cell ≡ final replica) × (e.stamp ≡ replica.stamp) × (e.len ≡ length replica.bytes)
@@ -62,44 +63,71 @@ final_cell (growing stamp base bytes left) e is agrees = absurd (subst (λ st. W
 final_cell (unsure x y cut) e is agrees = absurd (subst (λ st. IsInDoubt (entry_state st)) is agrees)
 final_cell waiting e is agrees = let bad : is_final ≡ is_waiting = sym (ap entry_state is) ∙ agrees in absurd cc
 
+named_when : (b : Bool) (slot : Slot) (content : List ℕ) → (if b then slot else empty) ≡ holds content → b ≡ true
+named_when true slot content is = refl
+named_when false slot content is = absurd cc
+
+-- a file that a view shows is one
+shown_file : (world : World) (id vol : ℕ) (f : File) (content : List ℕ) → view_of world id vol f ≡ holds content → IsTrue (is_file f)
+unfolding view_of
+shown_file world id vol f content is = named_when (is_file f) (slot_at world vol (path_of id f)) content is
+
+-- a file that stands has a reader, which tells its bytes
+told_file : {R : Type 0} (bytes : R → Option (List ℕ)) (lent : Option R) (content : List ℕ) → file_of bytes lent ≡ Some content → reader_bytes bytes lent ≡ Some content
+told_file bytes None content is = absurd cc
+told_file bytes (Some reader) content is = is
+
 module _ {told : Option (List World)} {volumes : ℕ} {entries : ℕ → Option Entry} {found : ℕ → List Leftover} {sound : Bool} {cells : Cells} (stands : PoolStands told volumes entries found sound cells)
-    (id : ℕ) (valid : IsBlockId id) (e : Entry) (has : entries id ≡ Some e) (is : e.state ≡ Finalised) where
+    (id : ℕ) (valid : IsBlockId id) (e : Entry) (has : entries id ≡ Some e) where
   agrees_here : Agrees (Some (book_entry e)) (cells id)
   agrees_here = subst (λ (o : Option Entry). Agrees (option_map book_entry o) (cells id)) has (stands.agrees id valid)
 
-  -- in each world the block file holds the replica's bytes
-  settled_bytes : (replica : Replica) → cells id ≡ final replica → (world : World) → IsWorldOf told world → world.settled e.vol (path_of id block) ≡ Some replica.bytes
-  settled_bytes replica cell_is world there =
+  -- in each world the replica's pair stands
+  pair_stands : (replica : Replica) → cells id ≡ final replica → (world : World) → IsWorldOf told world → PairStands (MatchesIf sound) (view_of world id) e.vol replica
+  pair_stands replica cell_is world there =
       let own : BlockStands (MatchesIf sound) (view_of world id) (block_books (Some e) (found id)) (final replica) =
       subst (BlockStands (MatchesIf sound) (view_of world id) (block_books (Some e) (found id))) cell_is
       (subst (λ (o : Option Entry). BlockStands (MatchesIf sound) (view_of world id) (block_books o (found id)) (cells id)) has (stands.blocks world there id valid)) in
-      (view_holds world id e.vol block refl replica.bytes own.content.0.block_file).file
+      own.content.0
 
-  lent_bytes : {R E : Type 0} (told' : Option (List World)) (bytes : R → Option (List ℕ)) (path : List ℕ) → path ≡ path_of id block → (replica : Replica) → cells id ≡ final replica → (lent : Option R) →
-      ((r : R) → ◌≡◌ {A = Result (Option R) E} (Ok lent) (Ok (Some r)) → PicksOne (λ w. w.settled e.vol path ≡ bytes r) (λ w. w) told told') →
-      (◌≡◌ {A = Result (Option R) E} (Ok lent) (Ok None) → PicksOne (λ w. IsAbsent w e.vol path) (λ w. w) told told') →
-      IsSome told → reader_bytes bytes lent ≡ Some replica.bytes
-  lent_bytes told' bytes path same replica cell_is None some none tells =
+  -- so the reader of the block file tells the replica's bytes
+  lent_bytes : {R : Type 0} (told' : Option (List World)) (bytes : R → Option (List ℕ)) (lent : Option R) (replica : Replica) → cells id ≡ final replica →
+      PicksOne (λ w. w.settled e.vol (path_of id block) ≡ file_of bytes lent) (λ w. w) told told' → IsSome told → reader_bytes bytes lent ≡ Some replica.bytes
+  lent_bytes told' bytes lent replica cell_is call tells =
       let list = told_list told tells in
-      let picked = (none refl).picked list.0 list.1 in
-      let bad : None ≡ Some replica.bytes = sym picked.2.file ∙ ap (picked.0.settled e.vol) same ∙ settled_bytes replica cell_is picked.0 (list.0, list.1, picked.1) in
-      absurd cc
-  lent_bytes told' bytes path same replica cell_is (Some r) some none tells =
-      let list = told_list told tells in
-      let picked = (some r refl).picked list.0 list.1 in
-      sym picked.2 ∙ ap (picked.0.settled e.vol) same ∙ settled_bytes replica cell_is picked.0 (list.0, list.1, picked.1)
+      let picked = call.picked list.0 list.1 in
+      let pair = pair_stands replica cell_is picked.0 (list.0, list.1, picked.1) in
+      told_file bytes lent replica.bytes (sym picked.2 ∙ (view_holds picked.0 id e.vol block refl replica.bytes pair.block_file).file)
 
-  -- WHAT IS LENT
-  pub lends : {R E : Type 0} (told' : Option (List World)) (bytes : R → Option (List ℕ)) (path : List ℕ) → path ≡ path_of id block → (lent : Option R) →
-      ((r : R) → ◌≡◌ {A = Result (Option R) E} (Ok lent) (Ok (Some r)) → PicksOne (λ w. w.settled e.vol path ≡ bytes r) (λ w. w) told told') →
-      (◌≡◌ {A = Result (Option R) E} (Ok lent) (Ok None) → PicksOne (λ w. IsAbsent w e.vol path) (λ w. w) told told') →
-      Lends told (cells id) e.stamp e.len (reader_bytes bytes lent)
-  lends {R = R} {E = E} told' bytes path same lent some none =
-      let cell = final_cell (cells id) e is agrees_here in
-      record {
-        replica = cell.0;
-        cell_is = cell.1;
-        stamp_is = cell.2;
-        len_is = cell.3;
-        bytes_are = lent_bytes {R = R} {E = E} told' bytes path same cell.0 cell.1 lent some none;
-      }
+  -- and that of the meta file the bytes that match them
+  lent_meta : {R : Type 0} (told' : Option (List World)) (bytes : R → Option (List ℕ)) (lent : Option R) (replica : Replica) → cells id ≡ final replica → e.stamp ≡ replica.stamp →
+      PicksOne (λ w. w.settled e.vol (path_of id (meta e.stamp)) ≡ file_of bytes lent) (λ w. w) told told' →
+      ((all : List ℕ) → reader_bytes bytes lent ≡ Some all → length all < 2 ^ 64) → IsSome told → IsMetaOf sound (reader_bytes bytes lent) replica.bytes
+  lent_meta told' bytes lent replica cell_is stamp_is call limit tells =
+      let list = told_list told tells in
+      let picked = call.picked list.0 list.1 in
+      let pair = pair_stands replica cell_is picked.0 (list.0, list.1, picked.1) in
+      let shown : view_of picked.0 id e.vol (meta e.stamp) ≡ holds pair.content =
+      subst (λ s. view_of picked.0 id e.vol (meta s) ≡ holds pair.content) (sym stamp_is) pair.meta_file in
+      let tells_it = told_file bytes lent pair.content
+      (sym picked.2 ∙ (view_holds picked.0 id e.vol (meta e.stamp) (shown_file picked.0 id e.vol (meta e.stamp) pair.content shown) pair.content shown).file) in
+      record { content = pair.content; is = tells_it; few = limit pair.content tells_it; matches = pair.matches }
+
+-- WHAT IS LENT: the block file, and then the meta file
+pub lends : {R : Type 0} {told told' told'' : Option (List World)} {volumes volumes' : ℕ} {entries : ℕ → Option Entry} {found : ℕ → List Leftover} {sound : Bool} {cells : Cells} →
+    PoolStands told volumes entries found sound cells → PoolStands told' volumes' entries found sound cells →
+    (id : ℕ) → IsBlockId id → (e : Entry) → entries id ≡ Some e → e.state ≡ Finalised → (bytes : R → Option (List ℕ)) (lent lent' : Option R) →
+    PicksOne (λ w. w.settled e.vol (path_of id block) ≡ file_of bytes lent) (λ w. w) told told' →
+    PicksOne (λ w. w.settled e.vol (path_of id (meta e.stamp)) ≡ file_of bytes lent') (λ w. w) told' told'' →
+    ((all : List ℕ) → reader_bytes bytes lent' ≡ Some all → length all < 2 ^ 64) →
+    Lends sound told (cells id) e.stamp e.len (reader_bytes bytes lent) (reader_bytes bytes lent')
+lends {told' = told'} {told'' = told''} {cells = cells} stands stands' id valid e has is bytes lent lent' first second limit =
+    let cell = final_cell (cells id) e is (agrees_here stands id valid e has) in
+    record {
+      replica = cell.0;
+      cell_is = cell.1;
+      stamp_is = cell.2;
+      len_is = cell.3;
+      bytes_are = lent_bytes stands id valid e has told' bytes lent cell.0 cell.1 first;
+      meta_is = λ tells. lent_meta stands' id valid e has told'' bytes lent' cell.0 cell.1 cell.2 second limit (first.honest.0 tells);
+    }

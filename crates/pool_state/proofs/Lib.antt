@@ -3,11 +3,11 @@ pub mod Changing
 pub mod Whole
 pub mod Showing
 pub mod Starting
-pub mod Pieces
 pub mod Ends
 pub mod Removals
 pub mod QuietRemovals
 pub mod Lending
 pub mod Pushing
+pub mod Belonging
 pub mod EmptyDisks
 pub mod Deletions

@@ -13,7 +13,8 @@ use Rattle.pool_state.specs.declared.entry.Entry.{Entry}
 use Rattle.pool_state.specs.Answers.{unlimited, StepsTo}
 use Rattle.pool_state.specs.Books.{book_entry, block_books}
 use Rattle.pool_state.specs.Stands.{IsVolume, IsNotWaiting, PoolStands}
-use Rattle.pool_state.specs.Writers.{Writer, WriterStands, writer_entry}
+use Rattle.pair_draft.specs.Writers.{Writer}
+use Rattle.pool_state.specs.Writers.{WriterStands, writer_entry}
 use Rattle.pool_state.specs.Reaching.{Stays}
 use Rattle.pool_state.proofs.Reaching.{reaches_same}
 use Rattle.pool_state.proofs.Changing.{pool_stands, found_kept}
@@ -52,7 +53,7 @@ pushes told volumes entries found cells w bytes piece stamp' len' reserved' belo
     let rest : (w.reserved - w.len) - length piece ≡ reserved' - len' = omega (arith, within, longer, same_reserved) in
     let entry : Entry = writer_entry w.id w.stamp w.vol w.reserved belongs.block_number belongs.meta_number in
     let agrees : Agrees (Some (book_entry entry)) (growing w.stamp None (bytes ++ piece) ((w.reserved - w.len) - length piece)) =
-    (refl, omega (arith, length-append bytes piece, within, belongs.len, belongs.within), tt) in
+    (refl, omega (arith, length-append bytes piece, within, belongs.pushed.len, belongs.pushed.within), tt) in
     record {
       cell = growing w.stamp None (bytes ++ piece) ((w.reserved - w.len) - length piece);
       step = subst (λ c. Step unlimited c (push piece) done (growing w.stamp None (bytes ++ piece) ((w.reserved - w.len) - length piece))) (sym grows)

@@ -1,7 +1,10 @@
--- What a reader that was lent gives.
-use Rattle.std.specs.Prelude.{ℕ, ◌≡◌, ◌<◌, List, [], length, Option, Some, None, IsSome, IsSomeAnd}
+-- What the readers of a pair that was lent give.
+use Rattle.std.specs.Prelude.{ℕ, ◌≡◌, ◌<◌, ◌^◌, ◌⊎◌, Bool, List, [], length, Option, Some, None, IsSome, IsSomeAnd}
 use Rattle.disk_model.specs.Worlds.{World}
+use Rattle.disk_model.specs.Told.{InEachWorld}
 use Rattle.map_model.specs.Cells.{Replica, Cell, final}
+use Rattle.map_model.specs.Slots.{block, meta, path_of}
+use Rattle.map_model.specs.Sound.{MatchesIf}
 use Rattle.pool_state.specs.declared.read_pair.ReadPair.{ReadPair}
 
 -- the bytes that an optional reader gives, where it tells them; none is read as a file without bytes
@@ -13,13 +16,38 @@ reader_bytes bytes (Some reader) = bytes reader
 abbrev pub block_bytes : {D S T R : Type 0} → (R → Option (List ℕ)) → ReadPair D S T R → Option (List ℕ)
 block_bytes bytes pair = reader_bytes bytes pair.block
 
--- The cell is final; this is the replica's stamp and length, and where the disks tell, its bytes.
-pub record Lends (told : Option (List World)) (cell : Cell) (stamp len : ℕ) (bytes : Option (List ℕ)) : Type 0 where
+-- and of its meta file
+abbrev pub meta_bytes : {D S T R : Type 0} → (R → Option (List ℕ)) → ReadPair D S T R → Option (List ℕ)
+meta_bytes bytes pair = reader_bytes bytes pair.meta
+
+-- these bytes are told, fewer than 2^64, and match a replica's bytes where the disks began sound
+pub record IsMetaOf (sound : Bool) (told : Option (List ℕ)) (bytes : List ℕ) : Type 0 where
+  pub content : List ℕ
+  pub is : told ≡ Some content
+  pub few : length content < 2 ^ 64
+  pub matches : MatchesIf sound content bytes
+
+-- The cell is final; this is the replica's stamp and length, and where the disks tell, these are its bytes and those of its
+-- meta file.
+pub record Lends (sound : Bool) (told : Option (List World)) (cell : Cell) (stamp len : ℕ)
+    (bytes sums : Option (List ℕ)) : Type 0 where
   pub replica : Replica
   pub cell_is : cell ≡ final replica
   pub stamp_is : stamp ≡ replica.stamp
   pub len_is : len ≡ length replica.bytes
   pub bytes_are : IsSome told → bytes ≡ Some replica.bytes
+  pub meta_is : IsSome told → IsMetaOf sound sums replica.bytes
+
+-- the file that an optional reader is of: none where there is no reader, else the bytes that it tells
+abbrev pub file_of : {R : Type 0} → (R → Option (List ℕ)) → Option R → Option (List ℕ)
+file_of bytes None = None
+file_of bytes (Some reader) = bytes reader
+
+-- in each world these are a block's file and its meta file of this stamp, on this volume
+pub record AreFiles (told : Option (List World)) (id vol stamp : ℕ)
+    (block_file meta_file : Option (List ℕ)) : Type 0 where
+  pub block_is : InEachWorld told (λ world. world.settled vol (path_of id block) ≡ block_file)
+  pub meta_is : InEachWorld told (λ world. world.settled vol (path_of id (meta stamp)) ≡ meta_file)
 
 -- some reader of this number failed
 pub record FaultyReader {R : Type 0} (number_of faults_of : R → ℕ) (number : ℕ) : Type 0 where
@@ -27,6 +55,10 @@ pub record FaultyReader {R : Type 0} (number_of faults_of : R → ℕ) (number :
   pub faulty : 0 < faults_of one
   pub number_is : number_of one ≡ number
 
--- the pair has a reader, and some reader of its number failed
+-- there is a reader, and some reader of its number failed
+abbrev pub IsFaulty : {R : Type 0} → (R → ℕ) → (R → ℕ) → Option R → Type 0
+IsFaulty number_of faults_of file = IsSomeAnd file (λ reader. FaultyReader number_of faults_of (number_of reader))
+
+-- one of the pair's files has a reader, and some reader of its number failed
 abbrev pub FailedToRead : {D S T R : Type 0} → (R → ℕ) → (R → ℕ) → ReadPair D S T R → Type 0
-FailedToRead number_of faults_of pair = IsSomeAnd pair.block (λ reader. FaultyReader number_of faults_of (number_of reader))
+FailedToRead number_of faults_of pair = IsFaulty number_of faults_of pair.block ⊎ IsFaulty number_of faults_of pair.meta

@@ -2,17 +2,18 @@
 ghost use Rattle.std.specs.Prelude.{◌≡◌, ◌≢◌, ℕ, List, None, Some, false, IsErr, IsOk};
 ghost use Rattle.disk_model.specs.Causes.{Rose};
 ghost use Rattle.map_model.specs.Cells.{Cells, absent, final, growing, unsure, waiting};
-ghost use Rattle.map_model.specs.Steps.{finish, drop_write, failed};
-ghost use Rattle.pool_state.specs.Answers.{finish_reply, IsWritten};
+ghost use Rattle.map_model.specs.Steps.{Command, Step, finish, drop_write, failed};
+ghost use Rattle.pool_state.specs.Answers.{unlimited, finish_reply, IsWritten};
 ghost use Rattle.pool_state.specs.Books.{entry_at};
 ghost use Rattle.pool_state.specs.Tenures.{Takes};
 ghost use Rattle.pool_state.specs.Stands.{Stands, StandsForSome, GoesOn};
-ghost use Rattle.pool_state.specs.Writers.{pair_of, PairStands, writer_of, WriterStands};
+ghost use Rattle.pair_draft.specs.Writers.{pair_of, writer_of};
+ghost use Rattle.pool_state.specs.Writers.{PairStands, WriterBelongs};
 
 use crate::entry::{Entry, State};
 use crate::pool_record::Pool;
-use crate::writer::{SealedPair, Writing};
 use disk_model::{Failed, PoolDisks};
+use pair_draft::{SealedPair, Writing};
 use volume_layout::{block_path, meta_path, rbw_block, rbw_meta};
 
 impl<D: PoolDisks> Pool<D> {
@@ -63,13 +64,12 @@ impl<D: PoolDisks> Pool<D> {
         Ok(())
     }
 
-    /// Drops a fresh writer: removes its two files under `current/rbw`. Where that fails its block waits to be deleted. It takes
-    /// no memory.
+    /// Drops a fresh writer, whole or not: removes its two files under `current/rbw`. Where that fails its block waits to be
+    /// deleted. It takes no memory.
     pub fn drop_write(&mut self, writer: Writing<D>) -> Result<(), Failed>
         requires stands { StandsForSome D.worlds D.volume_count self.old }
-        requires belongs { (bytes : List ℕ) × WriterStands (D.worlds self.old.disks) (entry_at self.old.map) (writer_of D.Draft.place D.Draft.bytes writer) bytes }
+        requires belongs { WriterBelongs (entry_at self.old.map) (writer_of D.Draft.place D.Draft.bytes writer) }
         ensures step { (cells : Cells) (bytes : List ℕ) (left : ℕ) → Stands D.worlds D.volume_count self.old false cells →
-            WriterStands (D.worlds self.old.disks) (entry_at self.old.map) (writer_of D.Draft.place D.Draft.bytes writer) bytes →
             cells writer.id ≡ growing writer.stamp None bytes left →
             Takes D.worlds D.volume_count D.left_since writer.id drop_write (finish_reply result)
             (λ cell. (IsErr result → cell ≡ waiting) × (IsOk result → cell ≡ absent))
@@ -109,12 +109,13 @@ impl<D: PoolDisks> Pool<D> {
         Ok(())
     }
 
-    /// Gives a fresh writer up: its block waits to be deleted. It makes no device call and takes no memory.
+    /// Gives a fresh writer up, whole or not, of which a command failed: its block waits to be deleted. It makes no device call
+    /// and takes no memory.
     pub fn fail_write(&mut self, writer: Writing<D>)
         requires writes { IsWritten (entry_at self.old.map writer.id) }
-        ensures step { (cells : Cells) (stamp left : ℕ) (bytes : List ℕ) → Stands D.worlds D.volume_count self.old false cells →
-            cells writer.id ≡ growing stamp None bytes left →
-            Takes D.worlds D.volume_count D.left_since writer.id finish failed (λ cell. cell ≡ waiting) cells self.old self.new }
+        ensures step { (cells : Cells) (command : Command) (stamp left : ℕ) (bytes : List ℕ) → Stands D.worlds D.volume_count self.old false cells →
+            cells writer.id ≡ growing stamp None bytes left → Step unlimited (growing stamp None bytes left) command failed waiting →
+            Takes D.worlds D.volume_count D.left_since writer.id command failed (λ cell. cell ≡ waiting) cells self.old self.new }
         ensures others { (other : ℕ) → other ≢ writer.id → entry_at self.new.map other ≡ entry_at self.old.map other }
         ensures disks { self.new.disks ≡ self.old.disks }
     {

@@ -13,20 +13,16 @@ mod reading;
 mod replica_map;
 mod start_fault;
 mod start_write;
-mod writer;
-mod writing;
 
 pub use deleting::DeleteFault;
 pub use entry::{Entry, State};
 pub use leftover::{BlockFile, Leftover};
+pub use pair_draft::{PushFault, SealFault, SealedPair, Writing};
 pub use pool::{close_pool, make_pool};
 pub use pool_record::Pool;
 pub use read_pair::ReadPair;
-pub use reading::{ReadEnd, read_all};
 pub use replica_map::ReplicaMap;
 pub use start_fault::StartFault;
-pub use writer::{SealedPair, Writing};
-pub use writing::{META_HEADER, PushFault, SealFault};
 
 #[cfg(test)]
 mod tests;

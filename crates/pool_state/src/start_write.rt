@@ -8,13 +8,14 @@ ghost use Rattle.pool_state.specs.Answers.{unlimited, start_fault, start_reply, 
 ghost use Rattle.pool_state.specs.Books.{entry_at};
 ghost use Rattle.pool_state.specs.Tenures.{Takes};
 ghost use Rattle.pool_state.specs.Stands.{Stands, StandsForSome, GoesOn};
-ghost use Rattle.pool_state.specs.Writers.{writer_of, WriterStands};
+ghost use Rattle.pair_draft.specs.Writers.{writer_of};
+ghost use Rattle.pool_state.specs.Writers.{WriterStands};
 
 use crate::entry::{Entry, State};
 use crate::pool_record::Pool;
 use crate::start_fault::StartFault;
-use crate::writer::Writing;
 use disk_model::{DiskError, Draft, PoolDisks};
+use pair_draft::{Writing, reserve_sums};
 use std::alloc::Global;
 use volume_layout::{BlockId, Stamp, rbw_block, rbw_meta};
 
@@ -36,7 +37,7 @@ impl<D: PoolDisks> Pool<D> {
     }
 
     /// Starts a write of a block that has no replica, of at most `need` bytes, on volume 1: creates its block and its meta file
-    /// under `current/rbw`. Memory for the bytes is reserved first. Where the first create finds no memory nothing has changed;
+    /// under `current/rbw`. Memory for the checksums is reserved first. Where the first create finds no memory nothing has changed;
     /// after any other fault of a create the block waits to be deleted.
     pub fn start_write(
         &mut self,
@@ -66,7 +67,7 @@ impl<D: PoolDisks> Pool<D> {
         if let Some(entry) = self.map.find(id) {
             return Err(write_refusal(entry.state));
         }
-        let Ok(pending) = Vec::with_capacity(alloc, need as usize) else {
+        let Ok(sums) = reserve_sums(alloc, need) else {
             return Err(StartFault::Memory);
         };
         let vol = 1;
@@ -117,16 +118,7 @@ impl<D: PoolDisks> Pool<D> {
             vol,
             state,
         });
-        Ok(Writing {
-            id,
-            stamp,
-            vol,
-            len: 0,
-            reserved: need,
-            pending,
-            block,
-            meta: Some(meta),
-        })
+        Ok(Writing::new(id, stamp, vol, need, sums, block, meta))
     }
 }
 

@@ -1,10 +1,8 @@
 //! A block's way through a pool over disks in memory.
-ghost use Rattle.std.specs.Prelude.{◌≡◌, false};
-ghost use Rattle.volume_layout.specs.Aside.{is_aside};
 ghost use Rattle.pool_state.specs.Stands.{StandsForSome};
 
 use super::*;
-use disk_model::{DiskError, PlainDisks, PoolDisks, Reader};
+use disk_model::{PlainDisks, PoolDisks, Reader};
 use std::alloc::Global;
 use std::process::Abort;
 use std::test::Fail;
@@ -41,43 +39,48 @@ fn write_block<D: PoolDisks>(
     }
 }
 
-// Reads a whole block: its stamp and its bytes.
-fn read_block<D: PoolDisks>(
-    alloc: Global,
-    pool: &mut Pool<D>,
-    id: BlockId,
-) -> Result<(u64, Vec<u8>), StartFault>
-    requires stands { StandsForSome D.worlds D.volume_count pool.old }
-    ensures stands { StandsForSome D.worlds D.volume_count pool.new }
-{
-    let pair = pool.start_read(alloc, id)?;
-    let stamp = pair.stamp.get();
-    match read_all(alloc, pair) {
-        Ok(bytes) => Ok((stamp, bytes)),
-        Err(_) => Err(StartFault::Failed),
-    }
+// A replica's stamp, and the first bytes of its files.
+#[derive(Drop)]
+struct Files {
+    stamp: u64,
+    block: Vec<u8>,
+    meta: Vec<u8>,
 }
 
-// The first bytes of a settled file of volume 1.
-fn file_bytes<D: PoolDisks>(
-    alloc: Global,
-    pool: &mut Pool<D>,
-    path: &str,
-) -> Result<Vec<u8>, DiskError>
-    requires stands { StandsForSome D.worlds D.volume_count pool.old }
-    requires settled { is_aside path.now ≡ false }
-{
-    let mut out = vec![in alloc; 0u8; 16]?;
-    let Some(mut reader) = pool.disks.lend_reader(alloc, 1, path)? else {
-        return Err(DiskError::Failed);
+// The first bytes that a reader gives.
+fn reader_front<R: Reader>(alloc: Global, file: Option<R>) -> Result<Vec<u8>, StartFault> {
+    let (Ok(mut out), Some(mut reader)) = (vec![in alloc; 0u8; 16], file) else {
+        return Err(StartFault::Memory);
     };
     match reader.read(0, &mut out) {
         Ok(count) => {
             out.truncate(count);
             Ok(out)
         }
-        Err(_) => Err(DiskError::Failed),
+        Err(_) => Err(StartFault::Failed),
     }
+}
+
+// The files that a read of a block is lent.
+fn read_block<D: PoolDisks>(
+    alloc: Global,
+    pool: &mut Pool<D>,
+    id: BlockId,
+) -> Result<Files, StartFault>
+    requires stands { StandsForSome D.worlds D.volume_count pool.old }
+    ensures stands { StandsForSome D.worlds D.volume_count pool.new }
+{
+    let ReadPair {
+        block,
+        meta,
+        stamp,
+        ..
+    } = pool.start_read(alloc, id)?;
+    Ok(Files {
+        stamp: stamp.get(),
+        block: reader_front(alloc, block)?,
+        meta: reader_front(alloc, meta)?,
+    })
 }
 
 // What a reader and a long piece are answered while two bytes of a block are written.
@@ -103,21 +106,19 @@ fn a_block_is_written_and_read(rt: HostRuntime) -> Result<(), Fail> {
     };
     assert!(rt; matches!(read_block(alloc, &mut pool, id), Err(StartFault::None)));
     assert_eq!(rt; write_block(alloc, &mut pool, id, stamp, b"hello"), Ok(()));
-    let Ok((read_stamp, bytes)) = read_block(alloc, &mut pool, id) else {
+    let Ok(files) = read_block(alloc, &mut pool, id) else {
         panic!(rt; "not read");
     };
-    assert_eq!(rt; read_stamp, 1001);
-    assert_eq!(rt; bytes.as_slice(), b"hello".as_slice());
+    assert_eq!(rt; files.stamp, 1001);
+    assert_eq!(rt; files.block.as_slice(), b"hello".as_slice());
+    assert_eq!(rt;
+        files.meta.as_slice(),
+        [0u8, 1, 2, 0, 0, 2, 0, 0x9a, 0x71, 0xbb, 0x4c].as_slice()
+    );
     assert_eq!(rt;
         write_block(alloc, &mut pool, id, stamp, b"other"),
         Err(StartFault::Exists)
     );
-    let meta = file_bytes(
-        alloc,
-        &mut pool,
-        "current/finalized/subdir0/subdir0/blk_5_1001.meta",
-    )?;
-    assert_eq!(rt; meta.as_slice(), [0u8, 1, 0, 0, 0, 2, 0].as_slice());
     Ok(())
 }
 

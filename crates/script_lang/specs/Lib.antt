@@ -27,7 +27,9 @@ pub mod ScanReply
 pub mod NodeReport
 pub mod NodeReply
 pub mod PlanReply
+pub mod PlanRefusal
 pub mod BalancerReply
+pub mod JobReply
 pub mod Reply
 pub mod Names
 pub mod Volumes

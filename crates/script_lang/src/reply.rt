@@ -1,12 +1,14 @@
 //! The replies: what a node answers to the lines of a script.
 pub mod balancer_reply;
 pub mod cursor_member;
+pub mod job_reply;
 pub mod kept;
 pub mod move_reply;
 pub mod mover_reply;
 pub mod node_reply;
 pub mod plan;
 pub mod plan_member;
+pub mod plan_refusal;
 pub mod plan_state;
 pub mod report;
 pub mod scan_reply;
@@ -21,6 +23,7 @@ ghost use Rattle.script_lang.specs.declared.reply.Reply.TheVariants.{Data};
 
 use crate::bytes::Bytes;
 use crate::reply::balancer_reply::{BalancerReply, write_balancer_reply};
+use crate::reply::job_reply::{JobReply, write_job_reply};
 use crate::reply::move_reply::{MoveReply, write_move_reply};
 use crate::reply::mover_reply::{MoverReply, write_mover_reply};
 use crate::reply::node_reply::{NodeReply, write_node_reply};
@@ -115,6 +118,8 @@ pub enum Reply {
     Mover(MoverReply),
     /// About scanners.
     Scan(ScanReply),
+    /// About a job of a phase.
+    Job(JobReply),
 }
 
 /// The line that a reply prints, with its line feed. An error says that there is no memory for it.
@@ -153,6 +158,7 @@ pub fn write_reply(alloc: Global, reply: &Reply) -> Result<Vec<u8>, AllocError>
         Reply::Balancer(reply) => return write_balancer_reply(alloc, reply),
         Reply::Mover(reply) => return write_mover_reply(alloc, reply),
         Reply::Scan(reply) => return write_scan_reply(alloc, reply),
+        Reply::Job(reply) => return write_job_reply(alloc, reply),
     };
     Ok(line.into_bytes())
 }

@@ -1,11 +1,10 @@
 //! What is answered to lines about the disk balancer's plan.
-ghost use Rattle.std.specs.Prelude.{◌≡◌, [], ◌∷◌, ◌++◌, IfOk, map};
-ghost use Rattle.script_lang.specs.BalancerReply.{balancer_reply_text, in_one_line};
-ghost use Rattle.script_lang.specs.declared.reply.balancer_reply.BalancerReply.TheVariants.{InvalidVolume};
+ghost use Rattle.std.specs.Prelude.{◌≡◌, [], ◌∷◌, ◌++◌, IfOk};
+ghost use Rattle.script_lang.specs.BalancerReply.{balancer_reply_text};
 
 use crate::listed::Listed;
 use crate::reply::plan::{StepRow, write_plan};
-use crate::reply::plan_member::PlanMember;
+use crate::reply::plan_refusal::{PlanRefusal, write_plan_refusal};
 use crate::reply::plan_state::PlanState;
 use crate::text::Text;
 use std::alloc::{AllocError, Global};
@@ -17,34 +16,9 @@ pub enum BalancerReply {
     Submitted {
         id: Text,
     },
-    /// `inprogress`: another plan is being carried out.
-    InProgress,
-    /// `invalidversion VERSION`: plans of this version aren't read.
-    InvalidVersion {
-        version: u64,
-    },
-    /// `hashmismatch WANT HAVE`: WANT was said to be the id of the plan, and it is HAVE.
-    HashMismatch {
-        want: Text,
-        have: Text,
-    },
-    /// `malformed MEMBER`: this member of the plan is out of form.
-    Malformed {
-        member: PlanMember,
-    },
-    /// `oldplan AGE`: the plan is of so many milliseconds ago.
-    OldPlan {
-        age: u64,
-    },
-    /// `nodemismatch`: the plan is another node's.
-    NodeMismatch,
-    /// `invalidvolume UUID`: the node hasn't this volume. Each line feed of the UUID is printed as `?`.
-    InvalidVolume {
-        uuid: Text,
-    },
-    /// `invalidmove STEP`: this step, counted from 1, moves from a volume to itself.
-    InvalidMove {
-        step: u32,
+    /// A plan isn't submitted.
+    Refused {
+        refusal: PlanRefusal,
     },
     /// `nosuchplan ID`: no plan of this id is held.
     NoSuchPlan {
@@ -68,22 +42,7 @@ pub fn write_balancer_reply(alloc: Global, reply: &BalancerReply) -> Result<Vec<
             let id = id.as_str();
             format!(in alloc; "ok {id}\n")?
         }
-        BalancerReply::InProgress => format!(in alloc; "inprogress\n")?,
-        BalancerReply::InvalidVersion { version } => format!(in alloc;
-            "invalidversion {version}\n"
-        )?,
-        BalancerReply::HashMismatch { want, have } => {
-            let (want, have) = (want.as_str(), have.as_str());
-            format!(in alloc; "hashmismatch {want} {have}\n")?
-        }
-        BalancerReply::Malformed { member } => format!(in alloc; "malformed {member}\n")?,
-        BalancerReply::OldPlan { age } => format!(in alloc; "oldplan {age}\n")?,
-        BalancerReply::NodeMismatch => format!(in alloc; "nodemismatch\n")?,
-        BalancerReply::InvalidVolume { uuid } => return write_invalid_volume(
-            alloc,
-            uuid.as_str().as_bytes(),
-        ),
-        BalancerReply::InvalidMove { step } => format!(in alloc; "invalidmove {step}\n")?,
+        BalancerReply::Refused { refusal } => return write_plan_refusal(alloc, refusal),
         BalancerReply::NoSuchPlan { id } => {
             let id = id.as_str();
             format!(in alloc; "nosuchplan {id}\n")?
@@ -96,23 +55,4 @@ pub fn write_balancer_reply(alloc: Global, reply: &BalancerReply) -> Result<Vec<
         } => return write_plan(alloc, *number, *state, id, steps.as_slice()),
     };
     Ok(line.into_bytes())
-}
-
-/// The line about a volume that the node hasn't.
-fn write_invalid_volume(alloc: Global, uuid: &[u8]) -> Result<Vec<u8>, AllocError>
-    ensures { IfOk result (λ line. line.items ≡ balancer_reply_text (InvalidVolume uuid.now) ++ 10 ∷ []) }
-{
-    let mut line = format!(in alloc; "invalidvolume ")?.into_bytes();
-    for b in uuid {
-        line.push(in_one_line(*b))?;
-    }
-    line.push(b'\n')?;
-    Ok(line)
-}
-
-/// A byte of a text as it is printed in one line.
-fn in_one_line(b: u8) -> u8
-    ensures { result ≡ in_one_line b }
-{
-    if b == b'\n' { b'?' } else { b }
 }

@@ -1,6 +1,6 @@
 use Rattle.std.proofs.Common.{inl, inr, ap, ◌∙◌, refl, subst, Err, option_map}
 use Rattle.std.specs.Prelude.{IsSome}
-use Rattle.pool_state.specs.Writers.{writer_of}
+use Rattle.pair_draft.specs.Writers.{writer_of}
 use Rattle.pool_open.specs.Outcome.{fault_disks}
 use Rattle.dn_play.proofs.Answering.{appends_nothing}
 use Rattle.dn_play.proofs.Opening.{first_of, stands_first, left_start, stops_so, runs_so}

@@ -3,7 +3,8 @@ use Rattle.std.specs.Prelude.{MatchOption}
 use Rattle.map_model.specs.Cells.{growing}
 use Rattle.map_model.specs.Steps.{done, failed, no_writer}
 use Rattle.pool_state.specs.Books.{entry_at}
-use Rattle.pool_state.specs.Writers.{writer_of}
+use Rattle.pair_draft.specs.Writers.{writer_of}
+use Rattle.pool_state.proofs.Belonging.{writer_belongs}
 use Rattle.dn_play.specs.Standing.{NotGrowing, OpenWriter}
 use Rattle.dn_play.proofs.Stepping.{at_block, crash_takes, crash_same, goes_on, stays_on, carried_same, carried_on, seen_same, took, writer_of_block, no_writer_of_block}
 use Rattle.dn_play.proofs.Stepped.{no_drop, same_entries}
@@ -23,7 +24,7 @@ drop_write-requires-clause-belongs g c =
     let f = writer_of g.D.Draft.Draft.place g.D.Draft.Draft.bytes in
     let w = c.in-Some.writer in
     let at = writer_of_block _ _ _ (f w) (ap (option_map f) (sym c.in-Some.ensures.found)) (c.requires.stands.1.writer c.args.id c.remove.ensures.valid) in
-    (at.bytes, at.stands)
+    writer_belongs at.stands
 
 pub returns-in-Ok-clause-step : goal.returns-in-Ok-clause-step
 returns-in-Ok-clause-step g c state standing =
@@ -32,7 +33,7 @@ returns-in-Ok-clause-step g c state standing =
     let w = c.in-Some.writer in
     let at = writer_of_block _ _ _ (f w) (ap (option_map f) (sym c.in-Some.ensures.found)) (standing.writer id c.remove.ensures.valid) in
     let grows : state.cells w.id ≡ growing w.stamp None at.bytes (w.reserved - w.len) = ap state.cells at.of ∙ at.grows in
-    let t = at_block at.of (c.in-Ok.ensures.step state.cells at.bytes (w.reserved - w.len) standing.pool at.stands grows) in
+    let t = at_block at.of (c.in-Ok.ensures.step state.cells at.bytes (w.reserved - w.len) standing.pool grows) in
     let seen = took f id _ _ c.in-Some.ensures.taken in
     carried_on t.to.cell
     (goes_on standing id t.to.cell state.writers (t.to.stands _ standing.pool) c.in-Ok.ensures.goes_on.honest.1 (λ other apart. c.in-Ok.ensures.others other (λ e. apart (e ∙ at.of))) seen.0 (λ other apart. refl)
@@ -47,7 +48,7 @@ returns-in-Err-clause-step g c state standing =
     let w = c.in-Some.writer in
     let at = writer_of_block _ _ _ (f w) (ap (option_map f) (sym c.in-Some.ensures.found)) (standing.writer id c.remove.ensures.valid) in
     let grows : state.cells w.id ≡ growing w.stamp None at.bytes (w.reserved - w.len) = ap state.cells at.of ∙ at.grows in
-    let t = at_block at.of (c.in-Err.ensures.step state.cells at.bytes (w.reserved - w.len) standing.pool at.stands grows) in
+    let t = at_block at.of (c.in-Err.ensures.step state.cells at.bytes (w.reserved - w.len) standing.pool grows) in
     let seen = took f id _ _ c.in-Some.ensures.taken in
     carried_on t.to.cell
     (goes_on standing id t.to.cell state.writers (t.to.stands _ standing.pool) c.in-Err.ensures.goes_on.honest.1 (λ other apart. c.in-Err.ensures.others other (λ e. apart (e ∙ at.of))) seen.0 (λ other apart. refl)

@@ -1,16 +1,17 @@
-use Rattle.std.proofs.Common.{◌≡◌, ◌-◌, inl, inr, None, refl, sym, ◌∙◌, ap, subst, arith, option_map, true, false}
+use Rattle.std.proofs.Common.{◌≡◌, ◌-◌, inl, inr, None, refl, sym, ◌∙◌, ap, subst, option_map, true, false}
 use Rattle.std.specs.Prelude.{MatchOption, IsSome}
 use Rattle.map_model.specs.Cells.{growing}
 use Rattle.map_model.specs.Steps.{Step, finish, done, failed, memory, no_writer}
 use Rattle.pool_state.specs.Answers.{unlimited}
 use Rattle.pool_state.specs.Books.{entry_at, found_at}
-use Rattle.pool_state.specs.Writers.{writer_of}
+use Rattle.pair_draft.specs.Writers.{writer_of}
 use Rattle.dn_play.specs.Commands.{FailsBy}
 use Rattle.pool_state.specs.Stands.{PoolStands}
+use Rattle.pool_state.proofs.Belonging.{stands_sealed}
 use Rattle.pool_state.proofs.Starting.{with_cell-same}
 use Rattle.dn_play.specs.Standing.{NotGrowing, OpenWriter, faulty_of, mark_of}
-use Rattle.dn_play.proofs.Stepping.{at_block, crash_takes, crash_same, crash_only, goes_on, stays_on, carried_same, carried_on, seen_same, seen_some, put_back, took, writer_of_block, no_writer_of_block, open_goes_on}
-use Rattle.dn_play.proofs.Stepped.{no_finish, memory_finish, grows_not, faulty_writer}
+use Rattle.dn_play.proofs.Stepping.{at_block, crash_takes, crash_same, crash_only, goes_on, stays_on, carried_same, carried_on, seen_same, seen_some, put_back, took, writer_of_block, no_writer_of_block}
+use Rattle.dn_play.proofs.Stepped.{no_finish, memory_finish, failed_finish, has_meta, grows_not, faulty_writer}
 use Rattle.dn_play.proofs.session.Session.finish.Goals as goal
 
 pub returns-in-Err-clause-step : goal.returns-in-Err-clause-step
@@ -30,12 +31,20 @@ returns-in-Err-clause-step g c state standing =
           (λ e. absurd cc) (λ e w. absurd (grows_not (state.cells id) some.0.stamp at.bytes (some.0.reserved - some.0.len) at.grows w)) refl
     ]
 
+pub seal-requires : goal.seal-requires
+seal-requires g c =
+    let f = writer_of g.D.Draft.Draft.place g.D.Draft.Draft.bytes in
+    let w = c.in-Ok.writer in
+    let at = writer_of_block _ _ _ (f w) (ap (option_map f) c.in-Ok.ensures.ok) (c.requires.stands.1.writer c.args.id c.take.ensures.valid) in
+    record { whole = has_meta g.D.Draft.Draft.place w.meta _ at.stands.meta }
+
 pub finish-requires-clause-belongs : goal.finish-requires-clause-belongs
 finish-requires-clause-belongs g c =
     let f = writer_of g.D.Draft.Draft.place g.D.Draft.Draft.bytes in
     let w = c.in-Ok.writer in
     let at = writer_of_block _ _ _ (f w) (ap (option_map f) c.in-Ok.ensures.ok) (c.requires.stands.1.writer c.args.id c.take.ensures.valid) in
-    (at.bytes, c.in-Ok-seal.ensures.sealed _ _ at.bytes at.stands)
+    let sealed = c.in-Ok-seal.ensures in
+    (at.bytes, stands_sealed at.stands sealed.id sealed.stamp sealed.vol sealed.places.0 sealed.places.1 (sealed.sealed _ at.bytes at.stands.pushed))
 
 pub returns-in-Ok-finish-clause-step : goal.returns-in-Ok-finish-clause-step
 returns-in-Ok-finish-clause-step g c state standing =
@@ -43,11 +52,12 @@ returns-in-Ok-finish-clause-step g c state standing =
     let f = writer_of g.D.Draft.Draft.place g.D.Draft.Draft.bytes in
     let w = c.in-Ok.writer in
     let pair = c.in-Ok-seal.pair in
+    let sealed = c.in-Ok-seal.ensures in
     let at = writer_of_block _ _ _ (f w) (ap (option_map f) c.in-Ok.ensures.ok) (standing.writer id c.take.ensures.valid) in
-    let key : pair.id ≡ id = c.in-Ok-seal.ensures.sealed_id ∙ at.of in
+    let key : pair.id ≡ id = c.in-Ok-seal.ensures.id ∙ at.of in
     let grows : state.cells pair.id ≡ growing pair.stamp None at.bytes (w.reserved - w.len) =
     ap state.cells key ∙ at.grows ∙ ap (λ s. growing s None at.bytes (w.reserved - w.len)) (sym c.in-Ok-seal.ensures.stamp) in
-    let there = c.in-Ok-finish.ensures.step state.cells at.bytes (w.reserved - w.len) standing.pool (c.in-Ok-seal.ensures.sealed _ _ at.bytes at.stands) grows in
+    let there = c.in-Ok-finish.ensures.step state.cells at.bytes (w.reserved - w.len) standing.pool (stands_sealed at.stands sealed.id sealed.stamp sealed.vol sealed.places.0 sealed.places.1 (sealed.sealed _ at.bytes at.stands.pushed)) grows in
     let t = at_block key there in
     let seen = took f id _ _ c.in-Ok.ensures.taken in
     carried_on t.to.cell
@@ -62,11 +72,12 @@ returns-in-Err-finish-clause-step g c state standing =
     let f = writer_of g.D.Draft.Draft.place g.D.Draft.Draft.bytes in
     let w = c.in-Ok.writer in
     let pair = c.in-Ok-seal.pair in
+    let sealed = c.in-Ok-seal.ensures in
     let at = writer_of_block _ _ _ (f w) (ap (option_map f) c.in-Ok.ensures.ok) (standing.writer id c.take.ensures.valid) in
-    let key : pair.id ≡ id = c.in-Ok-seal.ensures.sealed_id ∙ at.of in
+    let key : pair.id ≡ id = c.in-Ok-seal.ensures.id ∙ at.of in
     let grows : state.cells pair.id ≡ growing pair.stamp None at.bytes (w.reserved - w.len) =
     ap state.cells key ∙ at.grows ∙ ap (λ s. growing s None at.bytes (w.reserved - w.len)) (sym c.in-Ok-seal.ensures.stamp) in
-    let there = c.in-Err-finish.ensures.step state.cells at.bytes (w.reserved - w.len) standing.pool (c.in-Ok-seal.ensures.sealed _ _ at.bytes at.stands) grows in
+    let there = c.in-Err-finish.ensures.step state.cells at.bytes (w.reserved - w.len) standing.pool (stands_sealed at.stands sealed.id sealed.stamp sealed.vol sealed.places.0 sealed.places.1 (sealed.sealed _ at.bytes at.stands.pushed)) grows in
     let t = at_block key there in
     let seen = took f id _ _ c.in-Ok.ensures.taken in
     carried_on t.to.cell
@@ -86,15 +97,13 @@ returns-in-Err-Memory-default-clause-step g c state standing =
     let e = c.in-Err-Memory-default in
     let new = e.writer in
     let at = writer_of_block _ _ _ (f w) (ap (option_map f) c.in-Ok.ensures.ok) (standing.writer id c.take.ensures.valid) in
-    let keeps = e.ensures.keeps e.field-0-0-is in
-    let left : w.reserved - w.len ≡ new.reserved - new.len = omega (arith, keeps.reserved, e.ensures.len) in
-    let grows = at.grows ∙ ap (λ s. growing s None at.bytes (w.reserved - w.len)) (sym keeps.stamp) ∙ ap (λ n. growing new.stamp None at.bytes n) left in
-    let seen = put_back f id new.id _ _ _ new (keeps.id ∙ at.of) c.in-Ok.ensures.taken c.put.ensures.put in
+    let same = e.ensures.same e.field-0-0-is in
+    let open_still = subst (OpenWriter told entries id (state.cells id) (state.writers id)) (sym same) at in
+    let seen = put_back f id new.id _ _ _ new open_still.of c.in-Ok.ensures.taken c.put.ensures.put in
     carried_on (state.cells id)
     (goes_on standing id (state.cells id) state.writers (subst (PoolStands told (g.D.PoolDisks.volume_count c.args.self.now.pool.disks) entries (found_at c.args.self.now.pool.map) false) (sym (with_cell-same state.cells id)) standing.pool)
     (λ x. x) (λ other apart. refl) seen.0 (λ other apart. refl)
-    (subst (λ o. MatchOption o (NotGrowing (state.cells id)) (OpenWriter told entries id (state.cells id) (state.writers id))) (sym seen.1)
-    (open_goes_on told told entries entries id (state.cells id) (state.cells id) (state.writers id) (f w) (f new) at.bytes at keeps (e.ensures.goes_on told entries at.bytes at.stands e.field-0-0-is) grows)))
+    (subst (λ o. MatchOption o (NotGrowing (state.cells id)) (OpenWriter told entries id (state.cells id) (state.writers id))) (sym seen.1) open_still))
     (crash_only (λ sound. subst (PoolStands told (g.D.PoolDisks.volume_count c.args.self.now.pool.disks) entries (found_at c.args.self.now.pool.map) true) (sym (with_cell-same state.cells id)) sound)) memory (λ trust known. refl) (subst (λ x. Step unlimited x finish memory x) (sym at.grows) (memory_finish w.stamp (w.reserved - w.len) at.bytes))
     (λ bad. absurd cc) (λ same waits. absurd (grows_not (state.cells id) w.stamp at.bytes (w.reserved - w.len) at.grows waits)) refl
 
@@ -105,8 +114,8 @@ returns-in-Err-Failed-default-clause-step g c state standing =
     let w = c.in-Ok.writer in
     let e = c.in-Err-Failed-default in
     let at = writer_of_block _ _ _ (f w) (ap (option_map f) c.in-Ok.ensures.ok) (standing.writer id c.take.ensures.valid) in
-    let key : e.writer.id ≡ id = e.ensures.id ∙ at.of in
-    let there = c.fail_write.ensures.step state.cells w.stamp (w.reserved - w.len) at.bytes standing.pool (ap state.cells key ∙ at.grows) in
+    let key : e.writer.id ≡ id = e.ensures.keeps.id ∙ at.of in
+    let there = c.fail_write.ensures.step state.cells finish w.stamp (w.reserved - w.len) at.bytes standing.pool (ap state.cells key ∙ at.grows) (failed_finish w.stamp (w.reserved - w.len) at.bytes) in
     let t = at_block key there in
     let seen = took f id _ _ c.in-Ok.ensures.taken in
     carried_on t.to.cell
@@ -115,5 +124,5 @@ returns-in-Err-Failed-default-clause-step g c state standing =
     (subst NotGrowing (sym t.to.says) tt)))
     (crash_takes t) failed (λ trust known. refl) t.to.step
     (λ same. subst (FailsBy (faulty_of g.D.Draft.Draft.place g.D.Draft.Draft.faults g.D.Reader.Reader.number g.D.Reader.Reader.faults) (mark_of g.D.PoolDisks.faults g.D.PoolDisks.next_number g.D.PoolDisks.moment c.args.self.now.pool.disks) (mark_of g.D.PoolDisks.faults g.D.PoolDisks.next_number g.D.PoolDisks.moment c.fail_write.new.self.disks) (state.writers id) (state.cells id) finish) (sym t.to.says)
-    (inl (faulty_writer g.D.Draft.Draft.place g.D.Draft.Draft.faults (f w) (state.writers id) _ _ _ _ _ _ at.stands.block at.stands.meta at.block_given at.meta_given (e.ensures.failed e.field-0-0-is))))
+    (inl (faulty_writer g.D.Draft.Draft.place g.D.Draft.Draft.faults (f w) (state.writers id) _ _ _ _ _ _ at.stands.block at.stands.meta at.block_given at.meta_given (e.ensures.failed e.field-0-0-is).1)))
     (λ bad x. absurd cc) refl

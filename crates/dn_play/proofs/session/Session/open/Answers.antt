@@ -4,7 +4,7 @@ use Rattle.disk_model.specs.Worlds.{DraftPlace}
 use Rattle.map_model.specs.Cells.{growing}
 use Rattle.map_model.specs.Steps.{done, memory}
 use Rattle.pool_state.specs.Answers.{start_fault, GivenBetween}
-use Rattle.pool_state.specs.Writers.{writer_of}
+use Rattle.pair_draft.specs.Writers.{writer_of}
 use Rattle.dn_play.specs.State.{Numbers}
 use Rattle.dn_play.specs.Standing.{NotGrowing, OpenWriter}
 use Rattle.dn_play.proofs.Stepping.{crash_takes, crash_same, goes_on, stays_on, none_open, carried_same, carried, carried_on, seen_same, put_new, put_here, put_other, made_number}
@@ -55,7 +55,7 @@ returns-clause-step g c state standing =
     let new_numbers : Numbers = record { first = first; last = last } in
     let numbers : ℕ → Numbers = λ other. if other == id then new_numbers else state.writers other in
     let seen = put_new f id w.id _ _ _ w what.0 c.make_room.ensures.same c.put.ensures.put in
-    let left : c.args.need ≡ w.reserved - w.len = omega (arith, what.2, belongs.len) in
+    let left : c.args.need ≡ w.reserved - w.len = omega (arith, what.2, belongs.pushed.len) in
     let grows = t.to.says.3 refl ∙ ap (λ n. growing c.args.stamp None [] n) left ∙ ap (λ s. growing s None [] (w.reserved - w.len)) (sym what.1) in
     let opened : OpenWriter (g.D.PoolDisks.worlds c.start_write.new.self.disks) (Rattle.pool_state.specs.Books.entry_at c.start_write.new.self.map) id t.to.cell new_numbers (f w) = record {
       of = what.0;

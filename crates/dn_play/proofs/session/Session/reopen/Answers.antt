@@ -1,5 +1,5 @@
 use Rattle.std.proofs.Common.{ap, option_map}
-use Rattle.pool_state.specs.Writers.{writer_of}
+use Rattle.pair_draft.specs.Writers.{writer_of}
 use Rattle.dn_play.proofs.FoundAgain.{carried_reopen, stays_reopen, on_ok, on_err}
 use Rattle.dn_play.proofs.session.Session.reopen.Goals as goal
 

@@ -13,17 +13,18 @@ use Rattle.pool_state.proofs.Ends.{drop_step, writer_placed, dropping_passes, ab
 use Rattle.pool_state.proofs.pool_record.Pool.drop_write.Goals as goal
 
 pub remove-requires-clause-low : goal.remove-requires-clause-low
-remove-requires-clause-low g c = (writer_placed c.requires.stands.1 _ _ c.requires.belongs.1).0
+remove-requires-clause-low g c = (writer_placed c.requires.stands.1 _ c.requires.belongs).0
 
 pub remove-requires-clause-high : goal.remove-requires-clause-high
-remove-requires-clause-high g c = (writer_placed c.requires.stands.1 _ _ c.requires.belongs.1).1
+remove-requires-clause-high g c = (writer_placed c.requires.stands.1 _ c.requires.belongs).1
 
 pub remove-requires-2-clause-high : goal.remove-requires-2-clause-high
-remove-requires-2-clause-high g c = subst (λ n. c.args.writer.vol ≤ n) (sym c.in-Ok.ensures.volumes) (writer_placed c.requires.stands.1 _ _ c.requires.belongs.1).1
+remove-requires-2-clause-high g c = subst (λ n. c.args.writer.vol ≤ n) (sym c.in-Ok.ensures.volumes) (writer_placed c.requires.stands.1 _ c.requires.belongs).1
 
 pub returns-in-Err-clause-step : goal.returns-in-Err-clause-step
-returns-in-Err-clause-step g c cells bytes left stands belongs grows =
+returns-in-Err-clause-step g c cells bytes left stands grows =
     let w = c.args.writer in
+    let belongs = c.requires.belongs in
     let step : View → View → Type 0 = λ before after. Fails before (remove_in before w.vol writing_block) after in
     let reaches = reaches_remove_at w.id w.vol writing_block belongs.valid.0 refl _ (c.as_str.ensures ∙ c.rbw_block.ensures) _ _ c.in-Err.ensures.worlds in
     takes waiting (subst (λ cell. Step unlimited cell drop_write failed waiting) (sym grows) (drop_step w.stamp left bytes failed waiting refl))
@@ -37,8 +38,9 @@ returns-in-Err-clause-step g c cells bytes left stands belongs grows =
     )) stands
 
 pub returns-in-Err-remove-clause-step : goal.returns-in-Err-remove-clause-step
-returns-in-Err-remove-clause-step g c cells bytes left stands belongs grows =
+returns-in-Err-remove-clause-step g c cells bytes left stands grows =
     let w = c.args.writer in
+    let belongs = c.requires.belongs in
     let one : View → View → Type 0 = λ before after. after ≡ remove_in before w.vol writing_block in
     let step : View → View → Type 0 = Then one (λ before after. Fails before (remove_in before w.vol (writing_meta w.stamp)) after) in
     let first = reaches_removed_at w.id w.vol writing_block belongs.valid.0 refl _ (c.as_str.ensures ∙ c.rbw_block.ensures) _ _ c.in-Ok.ensures.ok in
@@ -59,8 +61,9 @@ returns-in-Err-remove-clause-step g c cells bytes left stands belongs grows =
     )) stands
 
 pub returns-clause-step : goal.returns-clause-step
-returns-clause-step g c cells bytes left stands belongs grows =
+returns-clause-step g c cells bytes left stands grows =
     let w = c.args.writer in
+    let belongs = c.requires.belongs in
     let one : View → View → Type 0 = λ before after. after ≡ remove_in before w.vol writing_block in
     let step : View → View → Type 0 = Then one (λ before after. after ≡ remove_in before w.vol (writing_meta w.stamp)) in
     let first = reaches_removed_at w.id w.vol writing_block belongs.valid.0 refl _ (c.as_str.ensures ∙ c.rbw_block.ensures) _ _ c.in-Ok.ensures.ok in

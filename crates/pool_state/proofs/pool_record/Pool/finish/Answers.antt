@@ -5,12 +5,11 @@ use Rattle.map_model.specs.Steps.{Step, finish, failed, done}
 use Rattle.pool_state.specs.Answers.{unlimited}
 use Rattle.map_model.specs.Slots.{View, block, meta, writing_block, writing_meta, publish_in}
 use Rattle.map_model.specs.Tenures.{Fails, meta_failed, block_failed}
-use Rattle.pool_state.specs.Writers.{meta_header}
 use Rattle.pool_state.specs.Reaching.{Then}
 use Rattle.pool_state.proofs.Reaching.{reaches_then}
 use Rattle.pool_state.proofs.Changing.{same_found}
 use Rattle.pool_state.proofs.Showing.{begins, calls, shown, takes}
-use Rattle.pool_state.proofs.Ends.{reaches_published_at, reaches_publish_at, same_told, finish_step, meta_stands, block_stands, doubt_passes, new_passes, final_passes, finish_doubts, finish_ends}
+use Rattle.pool_state.proofs.Ends.{meta_of, reaches_published_at, reaches_publish_at, same_told, finish_step, meta_stands, block_stands, doubt_passes, new_passes, final_passes, finish_doubts, finish_ends}
 use Rattle.pool_state.proofs.pool_record.Pool.finish.Goals as goal
 
 pub publish-requires : goal.publish-requires
@@ -20,10 +19,10 @@ pub returns-in-Err-clause-step : goal.returns-in-Err-clause-step
 returns-in-Err-clause-step g c cells bytes left stands belongs grows =
     let p = c.args.pair in
     let new : Replica = record { stamp = p.stamp; bytes = bytes } in
-    let step : View → View → Type 0 = λ before after. Fails before (publish_in before p.vol (writing_meta p.stamp) (meta p.stamp) meta_header) after in
-    let reaches = reaches_publish_at p.id p.vol (writing_meta p.stamp) (meta p.stamp) belongs.meta_number meta_header _ belongs.valid.0
+    let step : View → View → Type 0 = λ before after. Fails before (publish_in before p.vol (writing_meta p.stamp) (meta p.stamp) (meta_of belongs)) after in
+    let reaches = reaches_publish_at p.id p.vol (writing_meta p.stamp) (meta p.stamp) belongs.meta_number (meta_of belongs) _ belongs.valid.0
     (is_stamp-IsStamp p.stamp belongs.valid.1) (is_stamp-IsStamp p.stamp belongs.valid.1) _ _ belongs.meta (c.as_str.ensures ∙ c.meta_path.ensures) _ _
-    (λ told. same_told _ _ (belongs.meta_bytes told)) c.in-Err.ensures.worlds in
+    (λ told. same_told _ _ (belongs.sealed.meta_bytes told)) c.in-Err.ensures.worlds in
     takes (unsure None (Some new) false)
     (subst (λ cell. Step unlimited cell finish failed (unsure None (Some new) false)) (sym grows) (finish_step p.stamp left bytes failed (unsure None (Some new) false) (inr refl)))
     (λ e. refl, λ e. absurd cc)
@@ -40,24 +39,24 @@ publish-requires-2 g c =
     let belongs = c.requires.belongs.1 in
     record {
       stands = block_stands c.requires.stands.1 _ _ belongs _
-          (reaches_published_at p.id p.vol (writing_meta p.stamp) (meta p.stamp) belongs.meta_number meta_header _ belongs.valid.0
+          (reaches_published_at p.id p.vol (writing_meta p.stamp) (meta p.stamp) belongs.meta_number (meta_of belongs) _ belongs.valid.0
           (is_stamp-IsStamp p.stamp belongs.valid.1) (is_stamp-IsStamp p.stamp belongs.valid.1) _ _ belongs.meta (c.as_str.ensures ∙ c.meta_path.ensures) _ _
-          (λ told. same_told _ _ (belongs.meta_bytes told)) c.in-Ok.ensures.ok);
+          (λ told. same_told _ _ (belongs.sealed.meta_bytes told)) c.in-Ok.ensures.ok);
     }
 
 pub returns-in-Err-publish-clause-step : goal.returns-in-Err-publish-clause-step
 returns-in-Err-publish-clause-step g c cells bytes left stands belongs grows =
     let p = c.args.pair in
     let new : Replica = record { stamp = p.stamp; bytes = bytes } in
-    let one : View → View → Type 0 = λ before after. after ≡ publish_in before p.vol (writing_meta p.stamp) (meta p.stamp) meta_header in
+    let one : View → View → Type 0 = λ before after. after ≡ publish_in before p.vol (writing_meta p.stamp) (meta p.stamp) (meta_of belongs) in
     let step : View → View → Type 0 = Then one (λ before after. Fails before (publish_in before p.vol writing_block block bytes) after) in
-    let first = reaches_published_at p.id p.vol (writing_meta p.stamp) (meta p.stamp) belongs.meta_number meta_header _ belongs.valid.0
+    let first = reaches_published_at p.id p.vol (writing_meta p.stamp) (meta p.stamp) belongs.meta_number (meta_of belongs) _ belongs.valid.0
     (is_stamp-IsStamp p.stamp belongs.valid.1) (is_stamp-IsStamp p.stamp belongs.valid.1) _ _ belongs.meta (c.as_str.ensures ∙ c.meta_path.ensures) _ _
-    (λ told. same_told _ _ (belongs.meta_bytes told)) c.in-Ok.ensures.ok in
+    (λ told. same_told _ _ (belongs.sealed.meta_bytes told)) c.in-Ok.ensures.ok in
     let reaches = reaches_then p.id _ _ _ _ _ first
     (reaches_publish_at p.id p.vol writing_block block belongs.block_number bytes _ belongs.valid.0
     refl refl _ _ belongs.block (c.as_str-2.ensures ∙ c.block_path.ensures) _ _
-    (λ told. same_told _ _ (belongs.block_bytes (c.in-Ok.ensures.worlds.honest.1 told))) c.in-Err-publish.ensures.worlds) in
+    (λ told. same_told _ _ (belongs.sealed.block_bytes (c.in-Ok.ensures.worlds.honest.1 told))) c.in-Err-publish.ensures.worlds) in
     takes (unsure None (Some new) false)
     (subst (λ cell. Step unlimited cell finish failed (unsure None (Some new) false)) (sym grows) (finish_step p.stamp left bytes failed (unsure None (Some new) false) (inr refl)))
     (λ e. refl, λ e. absurd cc)
@@ -77,15 +76,15 @@ pub returns-clause-step : goal.returns-clause-step
 returns-clause-step g c cells bytes left stands belongs grows =
     let p = c.args.pair in
     let new : Replica = record { stamp = p.stamp; bytes = bytes } in
-    let one : View → View → Type 0 = λ before after. after ≡ publish_in before p.vol (writing_meta p.stamp) (meta p.stamp) meta_header in
+    let one : View → View → Type 0 = λ before after. after ≡ publish_in before p.vol (writing_meta p.stamp) (meta p.stamp) (meta_of belongs) in
     let step : View → View → Type 0 = Then one (λ before after. after ≡ publish_in before p.vol writing_block block bytes) in
-    let first = reaches_published_at p.id p.vol (writing_meta p.stamp) (meta p.stamp) belongs.meta_number meta_header _ belongs.valid.0
+    let first = reaches_published_at p.id p.vol (writing_meta p.stamp) (meta p.stamp) belongs.meta_number (meta_of belongs) _ belongs.valid.0
     (is_stamp-IsStamp p.stamp belongs.valid.1) (is_stamp-IsStamp p.stamp belongs.valid.1) _ _ belongs.meta (c.as_str.ensures ∙ c.meta_path.ensures) _ _
-    (λ told. same_told _ _ (belongs.meta_bytes told)) c.in-Ok.ensures.ok in
+    (λ told. same_told _ _ (belongs.sealed.meta_bytes told)) c.in-Ok.ensures.ok in
     let reaches = reaches_then p.id _ _ _ _ _ first
     (reaches_published_at p.id p.vol writing_block block belongs.block_number bytes _ belongs.valid.0
     refl refl _ _ belongs.block (c.as_str-2.ensures ∙ c.block_path.ensures) _ _
-    (λ told. same_told _ _ (belongs.block_bytes (c.in-Ok.ensures.worlds.honest.1 told))) c.in-Ok-publish.ensures.ok) in
+    (λ told. same_told _ _ (belongs.sealed.block_bytes (c.in-Ok.ensures.worlds.honest.1 told))) c.in-Ok-publish.ensures.ok) in
     takes (final new)
     (subst (λ cell. Step unlimited cell finish done (final new)) (sym grows) (finish_step p.stamp left bytes done (final new) (refl, refl)))
     (λ e. absurd cc, λ e. refl)

@@ -27,8 +27,8 @@ returns-in-Some-clause-step g c cells stands =
     (λ e. absurd (so.0 cc), λ e w. absurd (so.1 cc), λ e. inl refl, λ e. absurd cc)
     (λ sound old. (stands_same _ _ _ _ _ _ _ _ sound cells c.args.id old refl refl (λ other. refl) (λ other. refl), begins _ _)) stands
 
-pub returns-in_default-with_capacity-clause-step : goal.returns-in_default-with_capacity-clause-step
-returns-in_default-with_capacity-clause-step g c cells stands =
+pub returns-in_default-reserve_sums-clause-step : goal.returns-in_default-reserve_sums-clause-step
+returns-in_default-reserve_sums-clause-step g c cells stands =
     let none = sym c.find.ensures.entry ∙ c.in_default.is in
     takes (cells c.args.id)
     (step_of stands c.args.id c.find.ensures.valid none c.args.stamp c.args.need memory (cells c.args.id) (omega arith) (inl (is_absent stands c.args.id c.find.ensures.valid none)))

@@ -1,0 +1,70 @@
+-- How the end of a write follows from the tenure that ends it.
+use Rattle.std.proofs.Common.{◌≡◌, ◌<◌, ◌^◌, inl, inr, ℕ, Bool, List, length, Option, None, Some, Result, Ok, Err, refl, sym, ap, subst, arith}
+use Rattle.std.proofs.lemmas.Bool.Decides.{nat_tests}
+use Rattle.disk_model.specs.Files.{Files}
+use Rattle.disk_model.specs.Worlds.{World, DraftPlace}
+use Rattle.map_model.specs.Cells.{Cell, Cells, absent}
+use Rattle.map_model.specs.Steps.{Command, Reply, CarriedOut, write, write_refusal}
+use Rattle.pool_state.specs.declared.entry.Entry.{Entry}
+use Rattle.pool_state.specs.declared.pool_record.Pool.{Pool}
+use Rattle.pool_state.specs.Answers.{unlimited, TakesStep}
+use Rattle.pool_state.specs.Tenures.{Takes}
+use Rattle.client_ops.specs.declared.writing.FillFault.{FillFault}
+use Rattle.client_ops.specs.declared.writing.FillFault.TheVariants.{Failed as FillFailed, Memory as FillMemory}
+use Rattle.client_ops.specs.declared.writing.Filled.{Filled}
+use Rattle.client_ops.specs.declared.writing.OpReply.{OpReply}
+use Rattle.client_ops.specs.declared.writing.OpReply.TheVariants.{Ok as EndsOk, Failed as EndsFailed, Memory as EndsMemory}
+use Rattle.client_ops.specs.Writing.{fill_fault, FillStands, op_answer, EndLeaves, EndsAsWrite, EndsWrite}
+
+-- the same fault
+abbrev fault_of : {X E : Type 0} → E → Result X E → E
+fault_of e (Ok x) = e
+fault_of e (Err fault) = fault
+
+pub same_fault : {X E : Type 0} (one other : E) → ◌≡◌ {A = Result X E} (Err one) (Err other) → one ≡ other
+same_fault one other same = ap (fault_of one) same
+
+-- more is known of the cell that a tenure leaves
+pub says_else : {id : ℕ} {command : Command} {answer : Reply} {SaysOf Other : Cell → Type 0} {cells : Cells} {Stood StandsFor : Bool → Cells → Type 0} {past since : ℕ → Files → Type 0} →
+    TakesStep id command answer SaysOf cells Stood StandsFor past since → ((cell : Cell) → SaysOf cell → Other cell) → TakesStep id command answer Other cells Stood StandsFor past since
+says_else step more = record {
+  to = record { cell = step.to.cell; step = step.to.step; says = more step.to.cell step.to.says; stands = step.to.stands };
+  images = step.images;
+  sound_images = step.sound_images;
+  whole_images = step.whole_images;
+}
+
+module _ {D S T R : Type 0} {worlds : D → Option (List World)} {volume_count : D → ℕ} {left_since : D → ℕ → Files → Type 0} {cells : Cells} {old new : Pool D S T R} where
+  -- the end of a write is a tenure on its block
+  pub ends_by : {at id stamp : ℕ} {bytes : List ℕ} {fault : Option FillFault} {reply : OpReply} {command : Command} {answer : Reply} {SaysOf : Cell → Type 0} →
+      at ≡ id → Takes worlds volume_count left_since at command answer SaysOf cells old new → ((cell : Cell) → SaysOf cell → EndLeaves fault reply stamp bytes cell) →
+      EndsWrite worlds volume_count left_since id stamp bytes fault reply cells old new
+  ends_by {at} {id} {stamp} {bytes} {fault} {reply} {command} {answer} same takes more = record {
+    command = command;
+    answer = answer;
+    takes = subst (λ n. Takes worlds volume_count left_since n command answer (EndLeaves fault reply stamp bytes) cells old new) same (says_else takes more);
+  }
+
+  -- by what the bytes became
+  pub ends_at : (place : T → DraftPlace) (bytes_of : T → Option (List ℕ)) (sealed_place : S → DraftPlace) (sealed_bytes : S → Option (List ℕ))
+      (told : Option (List World)) (entries : ℕ → Option Entry) (id stamp : ℕ) (bytes : List ℕ) (filled known : Filled D S T R) (reply : OpReply) → filled ≡ known →
+      FillStands place bytes_of sealed_place sealed_bytes told entries id stamp bytes filled →
+      (FillStands place bytes_of sealed_place sealed_bytes told entries id stamp bytes known → EndsWrite worlds volume_count left_since id stamp bytes (fill_fault known) reply cells old new) →
+      EndsWrite worlds volume_count left_since id stamp bytes (fill_fault filled) reply cells old new
+  ends_at place bytes_of sealed_place sealed_bytes told entries id stamp bytes filled known reply is fill ends =
+      subst (λ f. EndsWrite worlds volume_count left_since id stamp bytes (fill_fault f) reply cells old new) (sym is)
+      (ends (subst (FillStands place bytes_of sealed_place sealed_bytes told entries id stamp bytes) is fill))
+
+-- no length is refused
+free_write : (len : ℕ) → len < 2 ^ 64 → write_refusal unlimited absent len ≡ None
+free_write len fits = grind (arith, nat_tests)
+
+carried : (fault : Option FillFault) (reply : OpReply) (stamp : ℕ) (bytes : List ℕ) (cell : Cell) → EndLeaves fault reply stamp bytes cell → CarriedOut absent (write stamp bytes) (op_answer reply) cell
+carried None EndsOk stamp bytes cell leaves = (refl, ap Some (sym leaves))
+carried None EndsFailed stamp bytes cell leaves = inr (inr leaves)
+carried None EndsMemory stamp bytes cell leaves = absurd leaves
+carried (Some FillFailed) reply stamp bytes cell leaves = subst (λ r. CarriedOut absent (write stamp bytes) (op_answer r) cell) (sym leaves.0) (inr (inl leaves.1))
+carried (Some FillMemory) reply stamp bytes cell leaves = subst (λ r. CarriedOut absent (write stamp bytes) (op_answer r) cell) (sym leaves.0) leaves.1
+
+pub ends_as_write : EndsAsWrite
+ends_as_write fault reply stamp bytes cell fits leaves = rw (free_write (length bytes) fits) (carried fault reply stamp bytes cell leaves)

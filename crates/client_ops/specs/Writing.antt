@@ -1,0 +1,63 @@
+-- A write as a whole: what became of its bytes, and what its end leaves.
+use Rattle.std.specs.Prelude.{ℕ, ◌≡◌, ◌⊎◌, ◌<◌, ◌^◌, false, List, length, Option, None, Some}
+use Rattle.disk_model.specs.Files.{Files}
+use Rattle.disk_model.specs.Worlds.{World, DraftPlace}
+use Rattle.map_model.specs.Cells.{Cell, Cells, absent, final, unsure, waiting}
+use Rattle.map_model.specs.Steps.{Command, Reply, Step, write, done, failed, memory}
+use Rattle.pair_draft.specs.declared.writer.Writing.{Writing}
+use Rattle.pair_draft.specs.Writers.{writer_of, pair_of}
+use Rattle.pool_state.specs.declared.entry.Entry.{Entry}
+use Rattle.pool_state.specs.declared.pool_record.Pool.{Pool}
+use Rattle.pool_state.specs.Answers.{unlimited}
+use Rattle.pool_state.specs.Tenures.{Takes}
+use Rattle.pool_state.specs.Writers.{WriterBelongs, PairStands}
+use Rattle.client_ops.specs.declared.writing.Op.{Op}
+use Rattle.client_ops.specs.declared.writing.Op.TheVariants.{Write}
+use Rattle.client_ops.specs.declared.writing.FillFault.{FillFault}
+use Rattle.client_ops.specs.declared.writing.FillFault.TheVariants.{Failed as FillFailed, Memory as FillMemory}
+use Rattle.client_ops.specs.declared.writing.Filled.{Filled}
+use Rattle.client_ops.specs.declared.writing.Filled.TheVariants.{Sealed, Stopped}
+use Rattle.client_ops.specs.declared.writing.OpReply.{OpReply}
+use Rattle.client_ops.specs.declared.writing.OpReply.TheVariants.{Ok as EndsOk, Failed as EndsFailed, Memory as EndsMemory}
+
+module _ {D S T R : Type 0} where
+  -- the writer of a write that has begun
+  abbrev pub op_writer : Op D S T R → Writing D S T R
+  op_writer (Write writer) = writer
+
+  -- the fault that stopped its writer
+  abbrev pub fill_fault : Filled D S T R → Option FillFault
+  fill_fault (Sealed pair) = None
+  fill_fault (Stopped writer fault) = Some fault
+
+module _ {D S T R : Type 0} (place : T → DraftPlace) (bytes_of : T → Option (List ℕ)) (sealed_place : S → DraftPlace) (sealed_bytes : S → Option (List ℕ)) where
+  -- what a write of these bytes became belongs to a pool with these entries
+  abbrev pub FillStands : (told : Option (List World)) (entries : ℕ → Option Entry) (id stamp : ℕ) (bytes : List ℕ) → Filled D S T R → Type 0
+  FillStands told entries id stamp bytes (Sealed pair) = (pair.id ≡ id) × (pair.stamp ≡ stamp) × PairStands told entries (pair_of sealed_place sealed_bytes pair) bytes
+  FillStands told entries id stamp bytes (Stopped writer fault) = (writer.id ≡ id) × (writer.stamp ≡ stamp) × WriterBelongs entries (writer_of place bytes_of writer)
+
+-- the answer of a whole write
+abbrev pub op_answer : OpReply → Reply
+op_answer EndsOk = done
+op_answer EndsFailed = failed
+op_answer EndsMemory = memory
+
+-- the cell that the end of a write leaves, answered so, by the fault that stopped its writer
+abbrev pub EndLeaves : Option FillFault → OpReply → (stamp : ℕ) (bytes : List ℕ) → Cell → Type 0
+EndLeaves None EndsOk stamp bytes cell = cell ≡ final (record { stamp = stamp; bytes = bytes })
+EndLeaves None EndsFailed stamp bytes cell = cell ≡ unsure None (Some (record { stamp = stamp; bytes = bytes })) false
+EndLeaves None EndsMemory stamp bytes cell = ⊥
+EndLeaves (Some FillFailed) reply stamp bytes cell = (reply ≡ EndsFailed) × (cell ≡ waiting)
+EndLeaves (Some FillMemory) reply stamp bytes cell = (reply ≡ EndsMemory) × ((cell ≡ absent) ⊎ (cell ≡ waiting))
+
+-- which a whole write of an absent block leaves
+abbrev pub EndsAsWrite : Type 0
+EndsAsWrite = (fault : Option FillFault) (reply : OpReply) (stamp : ℕ) (bytes : List ℕ) (cell : Cell) → length bytes < 2 ^ 64 →
+    EndLeaves fault reply stamp bytes cell → Step unlimited absent (write stamp bytes) (op_answer reply) cell
+
+-- The end of a write: a tenure on its block.
+pub record EndsWrite {D S T R : Type 0} (worlds : D → Option (List World)) (volume_count : D → ℕ) (left_since : D → ℕ → Files → Type 0)
+    (id stamp : ℕ) (bytes : List ℕ) (fault : Option FillFault) (reply : OpReply) (cells : Cells) (old new : Pool D S T R) : Type 0 where
+  pub command : Command
+  pub answer : Reply
+  pub takes : Takes worlds volume_count left_since id command answer (EndLeaves fault reply stamp bytes) cells old new
