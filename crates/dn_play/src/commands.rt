@@ -141,7 +141,7 @@ impl<D: PoolDisks> Session<D> {
         }
     }
 
-    /// Reads a replica that its meta file was compared with.
+    /// Reads a replica, after it was verified by its meta file.
     pub fn read(&mut self, alloc: Global, id: BlockId) -> Reply
         requires stands { (state : RunState) × SessionStands D.worlds D.volume_count D.Draft.place D.Draft.bytes self.old state }
         ensures step { (state : RunState) → SessionStands D.worlds D.volume_count D.Draft.place D.Draft.bytes self.old state →
