@@ -190,14 +190,15 @@ fn calls_that_fail_are_answered(rt: HostRuntime) -> Result<(), Fail> {
     Ok(())
 }
 
+// A rule on appends names the draft that fails: that of the block, or of the meta file.
 #[test]
 fn a_push_that_fails_gives_its_writer_up(rt: HostRuntime) -> Result<(), Fail> {
     let alloc = rt.alloc();
     let words = words_of(alloc, WORDS)?;
     for (nth, replies) in [
         (1, "ok\nfailed\nnowriter\nnowriter\nwaiting\nok\nnone\n"),
-        (2, "ok\nok\nfailed\nnowriter\nwaiting\nok\nnone\n"),
-        (3, "ok\nok\nok\nfailed\nwaiting\nok\nnone\n"),
+        (2, "ok\nok\nok\nfailed\nwaiting\nok\nnone\n"),
+        (3, "ok\nok\nok\nok\ndata 1001 6162\nok\nnone\n"),
     ] {
         let disks = failing_disks(alloc, Call::Append, nth)?;
         let script = b"open 5 1001 2\npush 5 61\npush 5 62\nfinish 5\nread 5\ndelete 5\nread 5\n";
