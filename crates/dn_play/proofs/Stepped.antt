@@ -232,17 +232,8 @@ faulty_reader number_of faults_of first last (Some r) failed_one lent =
     record { one = failed_one.one; faulty = failed_one.faulty; since = omega (arith, at, lent.since); before = omega (arith, at, lent.before) }
 
 -- different answers
-pub done_not_failed : done ≡ failed → ⊥
-done_not_failed same = cc
-
-pub done_not_memory : done ≡ memory → ⊥
-done_not_memory same = cc
-
 pub failed_not_memory : failed ≡ memory → ⊥
 failed_not_memory same = cc
-
-pub memory_not_failed : memory ≡ failed → ⊥
-memory_not_failed same = cc
 
 -- no length is refused
 free_write : (len : ℕ) → len < 2 ^ 64 → write_refusal unlimited absent len ≡ None

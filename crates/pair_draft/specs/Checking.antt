@@ -2,6 +2,7 @@
 use Rattle.std.specs.Prelude.{ℕ, ◌≡◌, ◌≢◌, ◌<◌, ◌≤◌, ◌+◌, ◌*◌, ◌%◌, List, length, take, Option, Some, None}
 use Rattle.meta_file.specs.declared.verdict.Verdict.{Verdict}
 use Rattle.meta_file.specs.declared.verdict.Verdict.TheVariants.{Whole, BadChunk, Count, Short, Meta}
+use Rattle.meta_file.specs.Headers.{IsHeaderFault}
 use Rattle.meta_file.specs.Sums.{Progress, Summed, polynomial}
 use Rattle.meta_file.specs.Verdicts.{stored_sum, chunk_sum, given_chunks, count_verdict, sums_verdict}
 use Rattle.pair_draft.specs.declared.checker.Checker.{Checker}
@@ -48,10 +49,10 @@ abbrev pub CountAnswer : (want have : ℕ) → Option Verdict → Type 0
 CountAnswer want have None = have ≡ want
 CountAnswer want have (Some verdict) = (otherwise : Verdict) → verdict ≡ count_verdict want have otherwise
 
--- what holds of a verdict on `len` bytes, whatever is told of the files
+-- what holds of a verdict on `len` bytes, whatever is told of the files: its two numbers differ, or its one is out of range
 abbrev pub IsOnLength : ℕ → Verdict → Type 0
 IsOnLength len Whole = Unit {0}
 IsOnLength len (BadChunk chunk stored computed) = stored ≢ computed
 IsOnLength len (Count want have) = want ≢ have
 IsOnLength len (Short want have) = (want ≡ len) × (have < want)
-IsOnLength len (Meta fault) = Unit {0}
+IsOnLength len (Meta fault) = IsHeaderFault fault

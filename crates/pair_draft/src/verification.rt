@@ -1,8 +1,8 @@
 //! Whether a block has the bytes that its meta file tells of.
-ghost use Rattle.std.specs.Prelude.{◌≡◌, ◌+◌, ◌*◌, ◌^◌, ◌<◌, ◌≤◌, ◌⊎◌, List, ℕ, length, drop, Some, None, Ok, IfOk, IfSome, IsErr};
+ghost use Rattle.std.specs.Prelude.{◌≡◌, ◌+◌, ◌*◌, ◌^◌, ◌<◌, ◌≤◌, ◌⊎◌, List, ℕ, length, drop, Some, None, Ok, IfOk, IfErr, IfSome, IsErr};
 ghost use Rattle.disk_model.specs.Causes.{Rose, HasCause};
 ghost use Rattle.map_model.specs.Checksums.{chunk_count};
-ghost use Rattle.meta_file.specs.Headers.{IsHeader, header_of};
+ghost use Rattle.meta_file.specs.Headers.{IsHeader, IsHeaderFault, header_of};
 ghost use Rattle.meta_file.specs.Sums.{polynomial};
 ghost use Rattle.meta_file.specs.Verdicts.{length_verdict, sums_verdict, verdict_of};
 ghost use Rattle.pair_draft.specs.Files.{file_bytes, file_faults, SameFile};
@@ -131,6 +131,7 @@ fn read_meta_header<R: Reader>(meta: &mut Option<R>) -> Result<Result<Header, Me
     ensures cause { HasCause (file_faults R.faults meta.old) (file_faults R.faults meta.new) (IsErr result) }
     ensures header { (sums : List ℕ) → file_bytes R.bytes meta.old ≡ Some sums → IfOk result (λ header. header ≡ header_of sums) }
     ensures valid { IfOk result (λ header. IfOk header IsHeader) }
+    ensures fault { IfOk result (λ header. IfErr header IsHeaderFault) }
 {
     let mut bytes = [0u8; 7];
     let have = read_full(meta, 0, &mut bytes)?;

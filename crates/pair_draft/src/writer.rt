@@ -14,7 +14,7 @@ pub struct Writing<D: PoolDisks> {
     pub len: u64,
     /// How many bytes it may have in all.
     pub reserved: u64,
-    /// Has the checksum of the chunk that isn't full yet. Its tables take 8 KiB, which a writer that is moved needn't take along.
+    /// Has the checksum of the chunk that isn't full yet. Its tables take 8 KiB, which aren't moved with the writer.
     pub summer: Box<Summer>,
     /// The header of the meta file, and the checksums of the chunks that are full.
     pub sums: Vec<u8>,

@@ -1,6 +1,5 @@
 //! What a writer does: pushing bytes, and sealing its two drafts.
-ghost use Rattle.std.specs.Prelude.{◌≡◌, ◌+◌, ◌*◌, ◌-◌, ◌<◌, ◌≤◌, ◌++◌, [], List, ℕ, length, IfOk, IfErr, OnOk, OnErr, IsErrOf, IsOk, Option, Some, None, Ok, Err, IsSome, IsTrue, is_some};
-ghost use Rattle.std.specs.Prelude.{box_value};
+ghost use Rattle.std.specs.Prelude.{◌≡◌, ◌+◌, ◌*◌, ◌-◌, ◌<◌, ◌≤◌, ◌++◌, [], List, ℕ, length, IfOk, IfErr, OnOk, OnErr, IsErrOf, IsOk, Option, Some, None, Ok, Err, IsSome, IsTrue, is_some, box_value};
 ghost use Rattle.std.specs.Vec.{vec_capacity};
 ghost use Rattle.disk_model.specs.Causes.{Rose};
 ghost use Rattle.disk_model.specs.Worlds.{World};
