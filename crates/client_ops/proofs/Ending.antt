@@ -2,6 +2,10 @@
 use Rattle.std.proofs.Common.{◌≡◌, ◌<◌, ◌^◌, inl, inr, ℕ, Bool, List, length, Option, None, Some, Result, Ok, Err, refl, sym, ap, subst, arith}
 use Rattle.std.proofs.lemmas.Bool.Decides.{nat_tests}
 use Rattle.disk_model.specs.Files.{Files}
+use Rattle.disk_model.specs.declared.disks.PoolDisks.{Ghosts}
+use Rattle.disk_model.specs.declared.disks.Draft as drafts
+use Rattle.disk_model.specs.declared.disks.SealedDraft as sealed
+use Rattle.disk_model.specs.declared.disks.Reader as readers
 use Rattle.disk_model.specs.Worlds.{World, DraftPlace}
 use Rattle.map_model.specs.Cells.{Cell, Cells, absent}
 use Rattle.map_model.specs.Steps.{Command, Reply, CarriedOut, write, write_refusal}
@@ -34,25 +38,25 @@ says_else step more = record {
   whole_images = step.whole_images;
 }
 
-module _ {D S T R : Type 0} {worlds : D → Option (List World)} {volume_count : D → ℕ} {left_since : D → ℕ → Files → Type 0} {cells : Cells} {old new : Pool D S T R} where
+module _ {D S T R : Type 0} {g : Ghosts D S T R} {d : drafts.Ghosts T S} {s : sealed.Ghosts S} {r : readers.Ghosts R} {cells : Cells} {old new : Pool D S T R g d s r} where
   -- the end of a write is a tenure on its block
   pub ends_by : {at id stamp : ℕ} {bytes : List ℕ} {fault : Option FillFault} {reply : OpReply} {command : Command} {answer : Reply} {SaysOf : Cell → Type 0} →
-      at ≡ id → Takes worlds volume_count left_since at command answer SaysOf cells old new → ((cell : Cell) → SaysOf cell → EndLeaves fault reply stamp bytes cell) →
-      EndsWrite worlds volume_count left_since id stamp bytes fault reply cells old new
+      at ≡ id → Takes at command answer SaysOf cells old new → ((cell : Cell) → SaysOf cell → EndLeaves fault reply stamp bytes cell) →
+      EndsWrite id stamp bytes fault reply cells old new
   ends_by {at} {id} {stamp} {bytes} {fault} {reply} {command} {answer} same takes more = record {
     command = command;
     answer = answer;
-    takes = subst (λ n. Takes worlds volume_count left_since n command answer (EndLeaves fault reply stamp bytes) cells old new) same (says_else takes more);
+    takes = subst (λ n. Takes n command answer (EndLeaves fault reply stamp bytes) cells old new) same (says_else takes more);
   }
 
   -- by what the bytes became
   pub ends_at : (place : T → DraftPlace) (bytes_of : T → Option (List ℕ)) (sealed_place : S → DraftPlace) (sealed_bytes : S → Option (List ℕ))
       (told : Option (List World)) (entries : ℕ → Option Entry) (id stamp : ℕ) (bytes : List ℕ) (filled known : Filled D S T R) (reply : OpReply) → filled ≡ known →
       FillStands place bytes_of sealed_place sealed_bytes told entries id stamp bytes filled →
-      (FillStands place bytes_of sealed_place sealed_bytes told entries id stamp bytes known → EndsWrite worlds volume_count left_since id stamp bytes (fill_fault known) reply cells old new) →
-      EndsWrite worlds volume_count left_since id stamp bytes (fill_fault filled) reply cells old new
+      (FillStands place bytes_of sealed_place sealed_bytes told entries id stamp bytes known → EndsWrite id stamp bytes (fill_fault known) reply cells old new) →
+      EndsWrite id stamp bytes (fill_fault filled) reply cells old new
   ends_at place bytes_of sealed_place sealed_bytes told entries id stamp bytes filled known reply is fill ends =
-      subst (λ f. EndsWrite worlds volume_count left_since id stamp bytes (fill_fault f) reply cells old new) (sym is)
+      subst (λ f. EndsWrite id stamp bytes (fill_fault f) reply cells old new) (sym is)
       (ends (subst (FillStands place bytes_of sealed_place sealed_bytes told entries id stamp bytes) is fill))
 
 -- no length is refused

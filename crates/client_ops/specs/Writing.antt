@@ -1,6 +1,9 @@
 -- A write as a whole: what became of its bytes, and what its end leaves.
 use Rattle.std.specs.Prelude.{ℕ, ◌≡◌, ◌⊎◌, ◌<◌, ◌^◌, false, List, length, Option, None, Some}
-use Rattle.disk_model.specs.Files.{Files}
+use Rattle.disk_model.specs.declared.disks.PoolDisks.{Ghosts}
+use Rattle.disk_model.specs.declared.disks.Draft as drafts
+use Rattle.disk_model.specs.declared.disks.SealedDraft as sealed
+use Rattle.disk_model.specs.declared.disks.Reader as readers
 use Rattle.disk_model.specs.Worlds.{World, DraftPlace}
 use Rattle.map_model.specs.Cells.{Cell, Cells, absent, final, unsure, waiting}
 use Rattle.map_model.specs.Steps.{Command, Reply, Step, write, done, failed, memory}
@@ -56,8 +59,8 @@ EndsAsWrite = (fault : Option FillFault) (reply : OpReply) (stamp : ℕ) (bytes 
     EndLeaves fault reply stamp bytes cell → Step unlimited absent (write stamp bytes) (op_answer reply) cell
 
 -- The end of a write: a tenure on its block.
-pub record EndsWrite {D S T R : Type 0} (worlds : D → Option (List World)) (volume_count : D → ℕ) (left_since : D → ℕ → Files → Type 0)
-    (id stamp : ℕ) (bytes : List ℕ) (fault : Option FillFault) (reply : OpReply) (cells : Cells) (old new : Pool D S T R) : Type 0 where
+pub record EndsWrite {D S T R : Type 0} {g : Ghosts D S T R} {d : drafts.Ghosts T S} {s : sealed.Ghosts S} {r : readers.Ghosts R}
+    (id stamp : ℕ) (bytes : List ℕ) (fault : Option FillFault) (reply : OpReply) (cells : Cells) (old new : Pool D S T R g d s r) : Type 0 where
   pub command : Command
   pub answer : Reply
-  pub takes : Takes worlds volume_count left_since id command answer (EndLeaves fault reply stamp bytes) cells old new
+  pub takes : Takes id command answer (EndLeaves fault reply stamp bytes) cells old new

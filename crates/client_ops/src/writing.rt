@@ -68,9 +68,9 @@ pub fn write_start<D: PoolDisks>(
     stamp: Stamp,
     len: u64,
 ) -> Result<Op<D>, StartFault>
-    requires stands { StandsForSome D.worlds D.volume_count pool.old }
-    ensures step { (cells : Cells) → Stands D.worlds D.volume_count pool.old false cells →
-        Takes D.worlds D.volume_count D.left_since id (start_write stamp len) (start_reply result)
+    requires stands { StandsForSome pool.old }
+    ensures step { (cells : Cells) → Stands pool.old false cells →
+        Takes id (start_write stamp len) (start_reply result)
         (λ cell. (result ≡ Err StartFault.Failed → cell ≡ waiting)
         × (result ≡ Err StartFault.Memory → cell ≡ waiting → D.next_number pool.old.disks < D.next_number pool.new.disks)
         × (IsErr result → (cell ≡ cells id) ⊎ (cell ≡ waiting))
@@ -82,7 +82,7 @@ pub fn write_start<D: PoolDisks>(
     ensures numbers { IfOk result (λ op. GivenBetween (D.next_number pool.old.disks) (D.next_number pool.new.disks) (D.Draft.place (op_writer op).block).number) }
     ensures meta_numbers { IfOk result (λ op. IfSome (op_writer op).meta (λ meta.
         GivenBetween (D.next_number pool.old.disks) (D.next_number pool.new.disks) (D.Draft.place meta).number)) }
-    ensures goes_on { GoesOn D.worlds D.faults D.next_number D.moment D.volume_count pool.old.disks pool.new.disks }
+    ensures goes_on { GoesOn D.PoolDisks pool.old.disks pool.new.disks }
     ensures failed { IsErrOf result StartFault.Failed → Rose (D.faults pool.old.disks) (D.faults pool.new.disks) }
 {
     match pool.start_write(alloc, id, stamp, len) {
@@ -132,17 +132,17 @@ fn fill_writer<D: PoolDisks>(mut writer: Writing<D>, bytes: &[u8]) -> Filled<D>
 /// Ends a write. Bytes that were made sure of become the block's replica; a writer that was stopped is given up where a draft
 /// failed, and dropped where memory was wanting. The answer is the first fault, if there was one. It takes no memory.
 pub fn op_end<D: PoolDisks>(pool: &mut Pool<D>, filled: Filled<D>) -> OpReply
-    requires stands { StandsForSome D.worlds D.volume_count pool.old }
+    requires stands { StandsForSome pool.old }
     requires belongs { (id stamp : ℕ) × (bytes : List ℕ) ×
         FillStands D.Draft.place D.Draft.bytes D.Sealed.place D.Sealed.bytes (D.worlds pool.old.disks) (entry_at pool.old.map) id stamp bytes filled }
-    ensures step { (cells : Cells) (id stamp left : ℕ) (bytes : List ℕ) → Stands D.worlds D.volume_count pool.old false cells →
+    ensures step { (cells : Cells) (id stamp left : ℕ) (bytes : List ℕ) → Stands pool.old false cells →
         FillStands D.Draft.place D.Draft.bytes D.Sealed.place D.Sealed.bytes (D.worlds pool.old.disks) (entry_at pool.old.map) id stamp bytes filled →
         cells id ≡ growing stamp None bytes left →
-        EndsWrite D.worlds D.volume_count D.left_since id stamp bytes (fill_fault filled) result cells pool.old pool.new }
+        EndsWrite id stamp bytes (fill_fault filled) result cells pool.old pool.new }
     ensures others { (id stamp : ℕ) (bytes : List ℕ) →
         FillStands D.Draft.place D.Draft.bytes D.Sealed.place D.Sealed.bytes (D.worlds pool.old.disks) (entry_at pool.old.map) id stamp bytes filled →
         (other : ℕ) → other ≢ id → entry_at pool.new.map other ≡ entry_at pool.old.map other }
-    ensures goes_on { GoesOn D.worlds D.faults D.next_number D.moment D.volume_count pool.old.disks pool.new.disks }
+    ensures goes_on { GoesOn D.PoolDisks pool.old.disks pool.new.disks }
     ensures failed { result ≡ OpReply.Failed → fill_fault filled ≡ None → Rose (D.faults pool.old.disks) (D.faults pool.new.disks) }
 {
     match filled {

@@ -1,14 +1,15 @@
 -- Disks that go on, one call after another.
 use Rattle.std.proofs.Common.{ℕ, List, Option, refl, ◌∙◌, arith}
+use Rattle.disk_model.specs.declared.disks.PoolDisks.{Ghosts}
 use Rattle.disk_model.specs.Worlds.{World}
 use Rattle.pool_state.specs.Stands.{GoesOn}
 
-module _ {D : Type 0} (worlds : D → Option (List World)) (faults next_number moment volume_count : D → ℕ) where
-  pub went_same : (disks : D) → GoesOn worlds faults next_number moment volume_count disks disks
+module _ {D S T R : Type 0} (g : Ghosts D S T R) where
+  pub went_same : (disks : D) → GoesOn g disks disks
   went_same disks = record { honest = (λ t. t, λ t. t); faults = omega arith; next_number = omega arith; moment = omega arith; volume_count = refl }
 
-  pub went_then : (first middle last : D) → GoesOn worlds faults next_number moment volume_count first middle → GoesOn worlds faults next_number moment volume_count middle last →
-      GoesOn worlds faults next_number moment volume_count first last
+  pub went_then : (first middle last : D) → GoesOn g first middle → GoesOn g middle last →
+      GoesOn g first last
   went_then first middle last one two = record {
     honest = (λ t. two.honest.0 (one.honest.0 t), λ t. one.honest.1 (two.honest.1 t));
     faults = omega (arith, one.faults, two.faults);

@@ -3,6 +3,7 @@ use Rattle.std.proofs.Common.{◌≡◌, inl, inr, ℕ, true, false, List, [], �
 use mathlib.Core.Path.{fun_ext}
 use Rattle.std.specs.Prelude.{IsSome}
 use Rattle.std.proofs.lemmas.Option.{same_Some}
+use Rattle.disk_model.specs.declared.disks.PoolDisks.{Ghosts}
 use Rattle.volume_layout.specs.Paths.{IsBlockId}
 use Rattle.disk_model.specs.Worlds.{World}
 use Rattle.disk_model.specs.Files.{Files}
@@ -107,37 +108,37 @@ shown_start told start world holds is P has = subst (λ (w : World). P (shown_fi
 sound_start : (told : Option (List World)) (start : Files) → HoldsImage told start → IsSound start → InEachWorld told HasSoundFiles
 sound_start told start holds sound world is = subst HasSoundFiles (only_fresh told start holds world is) sound
 
-module _ {D : Type 0} (worlds : D → Option (List World)) (faults next_number moment volume_count : D → ℕ) (left_since : D → ℕ → Files → Type 0) (Faulty : ℕ → ℕ → Type 0)
-    (before : D) (only_now : (image : Files) → left_since before (moment before) image → CanLeave (worlds before) image) where
+module _ {D S T R : Type 0} (g : Ghosts D S T R) (Faulty : ℕ → ℕ → Type 0)
+    (before : D) (only_now : (image : Files) → g.left_since before (g.moment before) image → CanLeave (g.worlds before) image) where
   abbrev course_between : D → Option (List ℕ) → Course
-  course_between after input = record { entry = mark_of faults next_number moment before; exit = mark_of faults next_number moment after; told = worlds before; input = input }
+  course_between after input = record { entry = mark_of g before; exit = mark_of g after; told = g.worlds before; input = input }
 
   -- what the opening shows reads as the start
-  reads_start : (after : D) (start : Files) → HoldsImage (worlds before) start → AddsOnly (left_since before) (left_since after) (ReadsAsOne (worlds before)) →
-      (image : Files) → left_since after (moment before) image → ReadsAlike (block_files start) image
-  reads_start after start holds adds image s = elim (adds (moment before) image s) [
-    | inl earlier ↦ alike_start start image (only_start (worlds before) start image holds (only_now image earlier))
-    | inr reads ↦ shown_start (worlds before) start reads.0 holds reads.1 (λ files. ReadsAlike files image) reads.2.alike
+  reads_start : (after : D) (start : Files) → HoldsImage (g.worlds before) start → AddsOnly (g.left_since before) (g.left_since after) (ReadsAsOne (g.worlds before)) →
+      (image : Files) → g.left_since after (g.moment before) image → ReadsAlike (block_files start) image
+  reads_start after start holds adds image s = elim (adds (g.moment before) image s) [
+    | inl earlier ↦ alike_start start image (only_start (g.worlds before) start image holds (only_now image earlier))
+    | inr reads ↦ shown_start (g.worlds before) start reads.0 holds reads.1 (λ files. ReadsAlike files image) reads.2.alike
   ]
 
   -- and is sound where that is
-  sound_still : (after : D) (start : Files) → HoldsImage (worlds before) start → IsSound start → AddsOnly (left_since before) (left_since after) (ReadsAsOne (worlds before)) →
-      (image : Files) → left_since after (moment before) image → IsSound image
-  sound_still after start holds sound adds image s = elim (adds (moment before) image s) [
-    | inl earlier ↦ subst IsSound (sym (only_start (worlds before) start image holds (only_now image earlier))) sound
-    | inr reads ↦ reads.2.sound (sound_start (worlds before) start holds sound reads.0 reads.1)
+  sound_still : (after : D) (start : Files) → HoldsImage (g.worlds before) start → IsSound start → AddsOnly (g.left_since before) (g.left_since after) (ReadsAsOne (g.worlds before)) →
+      (image : Files) → g.left_since after (g.moment before) image → IsSound image
+  sound_still after start holds sound adds image s = elim (adds (g.moment before) image s) [
+    | inl earlier ↦ subst IsSound (sym (only_start (g.worlds before) start image holds (only_now image earlier))) sound
+    | inr reads ↦ reads.2.sound (sound_start (g.worlds before) start holds sound reads.0 reads.1)
   ]
 
   -- nothing was carried out
   pub stops_so : (out known : D) (fault : OpenFault D) (input taken : Option (List ℕ)) (ending : Ending) → out ≡ known → fault_disks fault ≡ known →
-      GoesOn worlds faults next_number moment volume_count before (fault_disks fault) → IsBeforeOpened ending → WritesReplies ending taken taken [] →
-      (ending ≡ OpenFailed → Rose (faults before) (faults known)) → (ending ≡ Later 0 → (image : Files) → HoldsImage (worlds before) image → HasTwoMetas image) →
-      AddsOnly (left_since before) (left_since (fault_disks fault)) (ReadsAsOne (worlds before)) →
-      RunsPool Faulty (left_since out) (CanLeave (worlds out)) (course_between out input) taken taken ending
+      GoesOn g before (fault_disks fault) → IsBeforeOpened ending → WritesReplies ending taken taken [] →
+      (ending ≡ OpenFailed → Rose (g.faults before) (g.faults known)) → (ending ≡ Later 0 → (image : Files) → HoldsImage (g.worlds before) image → HasTwoMetas image) →
+      AddsOnly (g.left_since before) (g.left_since (fault_disks fault)) (ReadsAsOne (g.worlds before)) →
+      RunsPool Faulty (g.left_since out) (CanLeave (g.worlds out)) (course_between out input) taken taken ending
   stops_so out known fault input taken ending is of_fault on early written open_fault later images =
-      let went : GoesOn worlds faults next_number moment volume_count before known = subst (GoesOn worlds faults next_number moment volume_count before) of_fault on in
-      let reads : AddsOnly (left_since before) (left_since known) (ReadsAsOne (worlds before)) = subst (λ (d : D). AddsOnly (left_since before) (left_since d) (ReadsAsOne (worlds before))) of_fault images in
-      subst (λ d. RunsPool Faulty (left_since d) (CanLeave (worlds d)) (course_between d input) taken taken ending) (sym is) (record {
+      let went : GoesOn g before known = subst (GoesOn g before) of_fault on in
+      let reads : AddsOnly (g.left_since before) (g.left_since known) (ReadsAsOne (g.worlds before)) = subst (λ (d : D). AddsOnly (g.left_since before) (g.left_since d) (ReadsAsOne (g.worlds before))) of_fault images in
+      subst (λ d. RunsPool Faulty (g.left_since d) (CanLeave (g.worlds d)) (course_between d input) taken taken ending) (sym is) (record {
         shown = [];
         goes = inl (record {
           is_before = early;
@@ -153,40 +154,40 @@ module _ {D : Type 0} (worlds : D → Option (List World)) (faults next_number m
 
   -- the lines were carried out
   pub runs_so : (mid after out : D) {volumes : ℕ} {entries : ℕ → Option Entry} {found : ℕ → List Leftover} {SoundNow : Cells → Type 0}
-      (input taken taken' : Option (List ℕ)) (ending : Ending) → out ≡ after → GoesOn worlds faults next_number moment volume_count before mid →
-      (opens : Opens (worlds before) (worlds mid) volumes entries found (left_since before) (left_since mid)) →
-      ((image : Files) → left_since mid (moment mid) image → CanLeave (worlds mid) image) →
-      Played Faulty (worlds mid) (first_of opens.cells) (mark_of faults next_number moment mid) (mark_of faults next_number moment after) input taken taken' ending
-      (LeavesAllowed (worlds after)) (PoolStands (worlds mid) volumes entries found true) SoundNow (left_since mid) (left_since after) → IsOfLines ending →
-      ((image : Files) → HoldsImage (worlds before) image → HasTwoMetas image → ⊥) → AddsOnly (left_since before) (left_since mid) (ReadsAsOne (worlds before)) →
-      (ending ≡ Later 0 → (image : Files) → CanLeave (worlds after) image → HasTwoMetas image) →
-      RunsPool Faulty (left_since out) (CanLeave (worlds out)) (course_between out input) taken taken' ending
+      (input taken taken' : Option (List ℕ)) (ending : Ending) → out ≡ after → GoesOn g before mid →
+      (opens : Opens (g.worlds before) (g.worlds mid) volumes entries found (g.left_since before) (g.left_since mid)) →
+      ((image : Files) → g.left_since mid (g.moment mid) image → CanLeave (g.worlds mid) image) →
+      Played Faulty (g.worlds mid) (first_of opens.cells) (mark_of g mid) (mark_of g after) input taken taken' ending
+      (LeavesAllowed (g.worlds after)) (PoolStands (g.worlds mid) volumes entries found true) SoundNow (g.left_since mid) (g.left_since after) → IsOfLines ending →
+      ((image : Files) → HoldsImage (g.worlds before) image → HasTwoMetas image → ⊥) → AddsOnly (g.left_since before) (g.left_since mid) (ReadsAsOne (g.worlds before)) →
+      (ending ≡ Later 0 → (image : Files) → CanLeave (g.worlds after) image → HasTwoMetas image) →
+      RunsPool Faulty (g.left_since out) (CanLeave (g.worlds out)) (course_between out input) taken taken' ending
   runs_so mid after out {volumes} {entries} {found} {SoundNow} input taken taken' ending is went opens only_mid p of_lines one_meta meanwhile later =
-      let made : (start : Files) → HoldsImage (worlds before) start → MakesCells (block_files start) opens.cells = λ start holds.
-      let shows = opens.shown (tells (worlds before) start holds) in
-      shown_start (worlds before) start shows.world holds shows.is (λ files. MakesCells files opens.cells) shows.made in
-      subst (λ d. RunsPool Faulty (left_since d) (CanLeave (worlds d)) (course_between d input) taken taken' ending) (sym is) (record {
+      let made : (start : Files) → HoldsImage (g.worlds before) start → MakesCells (block_files start) opens.cells = λ start holds.
+      let shows = opens.shown (tells (g.worlds before) start holds) in
+      shown_start (g.worlds before) start shows.world holds shows.is (λ files. MakesCells files opens.cells) shows.made in
+      subst (λ d. RunsPool Faulty (g.left_since d) (CanLeave (g.worlds d)) (course_between d input) taken taken' ending) (sym is) (record {
         shown = p.shown;
         goes = inr (record {
           first = first_of opens.cells;
-          mark = mark_of faults next_number moment mid;
+          mark = mark_of g mid;
           turns = p.turns;
           opened = opens.opened;
           one_meta = one_meta;
           from_start = made;
           counts = record { faults = went.faults; next_number = went.next_number; moment = went.moment };
-          follows = λ trust known. p.follows trust (known_on trust (worlds before) (worlds mid) went.honest.0
-              (λ begins. opens.stands true (λ yes. sound_start (worlds before) begins.0 begins.1 begins.2)) known);
+          follows = λ trust known. p.follows trust (known_on trust (g.worlds before) (g.worlds mid) went.honest.0
+              (λ begins. opens.stands true (λ yes. sound_start (g.worlds before) begins.0 begins.1 begins.2)) known);
           at_exit = p.at_mark;
           read = p.read;
           shows = p.shows;
           of_lines = of_lines;
-          images = λ start holds image s. elim (p.crash.images (moment before) image s) [
+          images = λ start holds image s. elim (p.crash.images (g.moment before) image s) [
             | inl earlier ↦
-                let shows = opens.shown (tells (worlds before) start holds) in
-                let alike : ReadsAlike (block_files start) image = elim (shows.images (moment before) image earlier) [
-                  | inl first ↦ alike_start start image (only_start (worlds before) start image holds (only_now image first))
-                  | inr reads_so ↦ shown_start (worlds before) start shows.world holds shows.is (λ files. ReadsAlike files image) reads_so
+                let shows = opens.shown (tells (g.worlds before) start holds) in
+                let alike : ReadsAlike (block_files start) image = elim (shows.images (g.moment before) image earlier) [
+                  | inl first ↦ alike_start start image (only_start (g.worlds before) start image holds (only_now image first))
+                  | inr reads_so ↦ shown_start (g.worlds before) start shows.world holds shows.is (λ files. ReadsAlike files image) reads_so
                 ] in
                 from_first p.turns image (start_allows (block_files start) opens.cells image opens.opened (made start holds) alike)
             | inr allows ↦ allows
@@ -194,17 +195,17 @@ module _ {D : Type 0} (worlds : D → Option (List World)) (faults next_number m
           images_each = p.crash.each;
           images_at_exit = λ image leaves. (p.stands image leaves).0;
           whole_at_exit = λ image leaves. (p.stands image leaves).1;
-          whole = λ image s. elim (p.crash.whole (moment mid) image s) [
+          whole = λ image s. elim (p.crash.whole (g.moment mid) image s) [
             | inl earlier ↦ opens.whole image (only_mid image earlier)
             | inr is_whole ↦ is_whole
           ];
           later = later;
           sound = λ start holds sound image s.
-              let worlds_are = sound_start (worlds before) start holds sound in
-              elim (p.crash.sound_images (opens.stands true (λ yes. worlds_are)) (moment before) image s) [
+              let worlds_are = sound_start (g.worlds before) start holds sound in
+              elim (p.crash.sound_images (opens.stands true (λ yes. worlds_are)) (g.moment before) image s) [
                 | inr is_sound ↦ is_sound
-                | inl opening ↦ elim (meanwhile (moment before) image opening) [
-                  | inl earlier ↦ subst IsSound (sym (only_start (worlds before) start image holds (only_now image earlier))) sound
+                | inl opening ↦ elim (meanwhile (g.moment before) image opening) [
+                  | inl earlier ↦ subst IsSound (sym (only_start (g.worlds before) start image holds (only_now image earlier))) sound
                   | inr reads ↦ reads.2.sound (worlds_are reads.0 reads.1)
                 ]
               ];

@@ -1,6 +1,10 @@
 -- When a session stands for the state of a run.
 use Rattle.std.specs.Prelude.{ℕ, ◌≡◌, ◌-◌, Bool, true, false, List, Option, None, MatchOption, option_map, ⊤, IsSome, nat_eq, ◌⊎◌}
-use Rattle.disk_model.specs.Worlds.{World, DraftPlace}
+use Rattle.disk_model.specs.declared.disks.PoolDisks.{Ghosts}
+use Rattle.disk_model.specs.declared.disks.Draft as drafts
+use Rattle.disk_model.specs.declared.disks.SealedDraft as sealed
+use Rattle.disk_model.specs.declared.disks.Reader as readers
+use Rattle.disk_model.specs.Worlds.{World}
 use Rattle.disk_model.specs.Causes.{FaultyOne}
 use Rattle.indexmap.specs.IndexMap.{get}
 use Rattle.volume_layout.specs.Paths.{IsBlockId}
@@ -56,27 +60,31 @@ IsKnown Sound telling_disks told = IsSome told
 IsKnown Sound sound_disks told = IsSome told × Sound
 
 -- the counts of a disk
-abbrev pub mark_of : {D : Type 0} → (faults next_number moment : D → ℕ) → D → Mark
-mark_of faults next_number moment disks = record { faults = faults disks; next_number = next_number disks; moment = moment disks }
+abbrev pub mark_of : {D S T R : Type 0} → Ghosts D S T R → D → Mark
+mark_of g disks = record { faults = g.faults disks; next_number = g.next_number disks; moment = g.moment disks }
 
 -- some draft or reader failed whose number is one of these
-abbrev pub faulty_of : {T R : Type 0} → (place : T → DraftPlace) (draft_faults : T → ℕ) (number reader_faults : R → ℕ) → ℕ → ℕ → Type 0
-faulty_of place draft_faults number reader_faults first last =
-    FaultyOne (λ draft. (place draft).number) draft_faults first last ⊎ FaultyOne number reader_faults first last
+abbrev pub faulty_of : {S T R : Type 0} → drafts.Ghosts T S → readers.Ghosts R → ℕ → ℕ → Type 0
+faulty_of d r first last =
+    FaultyOne (λ draft. (d.place draft).number) (λ draft. d.faults draft) first last ⊎ FaultyOne (λ reader. r.number reader) (λ reader. r.faults reader) first last
 
-module _ {D S T R : Type 0} (worlds : D → Option (List World)) (volume_count : D → ℕ) (place : T → DraftPlace) (bytes : T → Option (List ℕ)) where
+module _ {D S T R : Type 0} {g : Ghosts D S T R} {d : drafts.Ghosts T S} {s : sealed.Ghosts S} {r : readers.Ghosts R} where
   -- the open writer of a block
-  abbrev pub open_writer : Session D S T R → ℕ → Option Writer
-  open_writer session id = option_map (writer_of place bytes) (get nat_eq session.writers.by_block id)
+  abbrev pub open_writer : Session D S T R g d s r → ℕ → Option Writer
+  open_writer session id = option_map (writer_of (λ draft. d.place draft) (λ draft. d.bytes draft)) (get nat_eq session.writers.by_block id)
 
   -- the pool of a session stands for cells, with meta files that match
-  abbrev pub SoundFor : Session D S T R → Cells → Type 0
-  SoundFor session cells = Stands worlds volume_count session.pool true cells
+  abbrev pub SoundFor : Session D S T R g d s r → Cells → Type 0
+  SoundFor session cells = Stands session.pool true cells
 
   -- a session stands for the state of a run
-  abbrev pub SessionStands : Session D S T R → RunState → Type 0
+  abbrev pub SessionStands : Session D S T R g d s r → RunState → Type 0
   SessionStands session state =
-      Standing (worlds session.pool.disks) (volume_count session.pool.disks) (entry_at session.pool.map) (found_at session.pool.map) (open_writer session) state
+      Standing (g.worlds session.pool.disks) (g.volume_count session.pool.disks) (entry_at session.pool.map) (found_at session.pool.map) (open_writer session) state
+
+  -- a session stands for some state of a run
+  abbrev pub SessionStandsForSome : Session D S T R g d s r → Type 0
+  SessionStandsForSome session = (state : RunState) × SessionStands session state
 
 -- what the disks can leave is allowed by the cells of this state, and has one whole copy of each block at most
 abbrev pub LeavesAllowed : Option (List World) → RunState → Type 0
@@ -107,3 +115,16 @@ pub record LineCarried (Faulty : ℕ → ℕ → Type 0) (told : Option (List Wo
   pub stands : StandsFor new
   pub does : (trust : Trust) → IsKnown (Sound old.cells) trust told → Does trust Faulty old before line reply new after
   pub crash : CrashSafe old.cells new.cells Sound SoundNow past since
+
+module _ {D S T R : Type 0} {g : Ghosts D S T R} {d : drafts.Ghosts T S} {s : sealed.Ghosts S} {r : readers.Ghosts R} where
+  -- a session carried a command out
+  abbrev pub SessionCarriesOut : RunState → (id : ℕ) → Command → Reply → (old new : Session D S T R g d s r) → Type 0
+  SessionCarriesOut state id command reply old new =
+      CarriesOut (faulty_of d r) (g.worlds old.pool.disks) state (mark_of g old.pool.disks) id command reply (mark_of g new.pool.disks)
+      (SessionStands new) (SoundFor old) (SoundFor new) (g.left_since old.pool.disks) (g.left_since new.pool.disks)
+
+  -- and a line
+  abbrev pub SessionCarriesLine : RunState → Line → Reply → (old new : Session D S T R g d s r) → Type 0
+  SessionCarriesLine state line reply old new =
+      LineCarried (faulty_of d r) (g.worlds old.pool.disks) state (mark_of g old.pool.disks) line reply (mark_of g new.pool.disks)
+      (SessionStands new) (SoundFor old) (SoundFor new) (g.left_since old.pool.disks) (g.left_since new.pool.disks)

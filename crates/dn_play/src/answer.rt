@@ -9,7 +9,7 @@ ghost use Rattle.script_lang.specs.declared.Line.TheVariants.{Reopen};
 ghost use Rattle.dn_play.specs.Script.{is_carried};
 ghost use Rattle.dn_play.specs.State.{RunState};
 ghost use Rattle.dn_play.specs.Images.{StaysCrashSafe};
-ghost use Rattle.dn_play.specs.Standing.{SessionStands, SoundFor, LineCarried, LeavesAllowed, AnyCells, faulty_of, mark_of};
+ghost use Rattle.dn_play.specs.Standing.{SessionStands, SoundFor, LeavesAllowed, AnyCells, faulty_of, mark_of, SessionStandsForSome, SessionCarriesLine};
 ghost use Rattle.dn_play.specs.Answer.{Answered, Unanswered, IsOfLines, reopen_ending};
 
 use crate::ending::Ending;
@@ -56,21 +56,17 @@ fn carry_out<D: PoolDisks>(
     line: Line,
 ) -> Result<Reply, ReopenFault>
     requires command { is_carried line ≡ true }
-    requires stands { (state : RunState) × SessionStands D.worlds D.volume_count D.Draft.place D.Draft.bytes session.old state }
+    requires stands { SessionStandsForSome session.old }
     requires one_volume { D.volume_count session.old.pool.disks ≡ 1 }
-    ensures ok { (state : RunState) → SessionStands D.worlds D.volume_count D.Draft.place D.Draft.bytes session.old state →
-        IfOk result (λ reply. LineCarried (faulty_of D.Draft.place D.Draft.faults D.Reader.number D.Reader.faults) (D.worlds session.old.pool.disks)
-        state (mark_of D.faults D.next_number D.moment session.old.pool.disks) line reply (mark_of D.faults D.next_number D.moment session.new.pool.disks)
-        (SessionStands D.worlds D.volume_count D.Draft.place D.Draft.bytes session.new)
-        (SoundFor D.worlds D.volume_count D.Draft.place D.Draft.bytes session.old) (SoundFor D.worlds D.volume_count D.Draft.place D.Draft.bytes session.new)
-        (D.left_since session.old.pool.disks) (D.left_since session.new.pool.disks)) }
-    ensures err { (state : RunState) → SessionStands D.worlds D.volume_count D.Draft.place D.Draft.bytes session.old state →
-        OnErr result (StaysCrashSafe state.cells (SoundFor D.worlds D.volume_count D.Draft.place D.Draft.bytes session.old)
+    ensures ok { (state : RunState) → SessionStands session.old state →
+        IfOk result (λ reply. SessionCarriesLine state line reply session.old session.new) }
+    ensures err { (state : RunState) → SessionStands session.old state →
+        OnErr result (StaysCrashSafe state.cells (SoundFor session.old)
         (D.left_since session.old.pool.disks) (D.left_since session.new.pool.disks)) }
     ensures reopens { IsErr result → line ≡ Reopen }
     ensures failed { IsErrOf result ReopenFault.Failed → Rose (D.faults session.old.pool.disks) (D.faults session.new.pool.disks) }
     ensures two_metas { IsErrOf result ReopenFault.Later → (image : Files) → CanLeave (D.worlds session.new.pool.disks) image → HasTwoMetas image }
-    ensures goes_on { GoesOn D.worlds D.faults D.next_number D.moment D.volume_count session.old.pool.disks session.new.pool.disks }
+    ensures goes_on { GoesOn D.PoolDisks session.old.pool.disks session.new.pool.disks }
 {
     match line {
         Line::Reopen => {
@@ -89,24 +85,24 @@ pub fn answer<D: PoolDisks, K: Sink>(
     number: u64,
     text: &[u8],
 ) -> Result<(), Ending>
-    requires stands { (state : RunState) × SessionStands D.worlds D.volume_count D.Draft.place D.Draft.bytes session.old state }
+    requires stands { SessionStandsForSome session.old }
     requires one_volume { D.volume_count session.old.pool.disks ≡ 1 }
     requires some_line { 1 ≤ number }
-    ensures ok { (state : RunState) → SessionStands D.worlds D.volume_count D.Draft.place D.Draft.bytes session.old state →
-        OnOk result (Answered (faulty_of D.Draft.place D.Draft.faults D.Reader.number D.Reader.faults) (D.worlds session.old.pool.disks)
-        state (mark_of D.faults D.next_number D.moment session.old.pool.disks) (mark_of D.faults D.next_number D.moment session.new.pool.disks)
-        (K.taken sink.old) (K.taken sink.new) text.now (SessionStands D.worlds D.volume_count D.Draft.place D.Draft.bytes session.new)
-        (SoundFor D.worlds D.volume_count D.Draft.place D.Draft.bytes session.old) (SoundFor D.worlds D.volume_count D.Draft.place D.Draft.bytes session.new)
+    ensures ok { (state : RunState) → SessionStands session.old state →
+        OnOk result (Answered (faulty_of D.Draft.Draft D.Reader.Reader) (D.worlds session.old.pool.disks)
+        state (mark_of D.PoolDisks session.old.pool.disks) (mark_of D.PoolDisks session.new.pool.disks)
+        (K.taken sink.old) (K.taken sink.new) text.now (SessionStands session.new)
+        (SoundFor session.old) (SoundFor session.new)
         (D.left_since session.old.pool.disks) (D.left_since session.new.pool.disks)) }
-    ensures err { (state : RunState) → SessionStands D.worlds D.volume_count D.Draft.place D.Draft.bytes session.old state →
-        IfErr result (λ ending. Unanswered (faulty_of D.Draft.place D.Draft.faults D.Reader.number D.Reader.faults) (D.worlds session.old.pool.disks)
-        state (mark_of D.faults D.next_number D.moment session.old.pool.disks) (mark_of D.faults D.next_number D.moment session.new.pool.disks)
+    ensures err { (state : RunState) → SessionStands session.old state →
+        IfErr result (λ ending. Unanswered (faulty_of D.Draft.Draft D.Reader.Reader) (D.worlds session.old.pool.disks)
+        state (mark_of D.PoolDisks session.old.pool.disks) (mark_of D.PoolDisks session.new.pool.disks)
         (K.taken sink.old) (K.taken sink.new) number text.now ending (LeavesAllowed (D.worlds session.new.pool.disks))
-        (SoundFor D.worlds D.volume_count D.Draft.place D.Draft.bytes session.old) AnyCells
+        (SoundFor session.old) AnyCells
         (D.left_since session.old.pool.disks) (D.left_since session.new.pool.disks)) }
     ensures of_lines { IfErr result IsOfLines }
     ensures two_metas { IsErrOf result (Ending.Later 0) → (image : Files) → CanLeave (D.worlds session.new.pool.disks) image → HasTwoMetas image }
-    ensures goes_on { GoesOn D.worlds D.faults D.next_number D.moment D.volume_count session.old.pool.disks session.new.pool.disks }
+    ensures goes_on { GoesOn D.PoolDisks session.old.pool.disks session.new.pool.disks }
     ensures sink { IsErrOf result Ending.SinkFault → Rose (K.faults sink.old) (K.faults sink.new) }
     ensures later { K.faults sink.old ≤ K.faults sink.new }
 {

@@ -5,7 +5,7 @@ ghost use Rattle.volume_layout.specs.Paths.{IsBlockId};
 ghost use Rattle.map_model.specs.Steps.{start_write, push, finish, drop_write, read, delete};
 ghost use Rattle.pool_state.specs.Stands.{GoesOn};
 ghost use Rattle.dn_play.specs.State.{RunState};
-ghost use Rattle.dn_play.specs.Standing.{SessionStands, SoundFor, CarriesOut, LineCarried, is_on_block, faulty_of, mark_of};
+ghost use Rattle.dn_play.specs.Standing.{SessionStands, is_on_block, SessionStandsForSome, SessionCarriesOut, SessionCarriesLine};
 
 use crate::refusals::{delete_refusal_of, refusal_of};
 use crate::session::Session;
@@ -25,14 +25,10 @@ const BUFFER: usize = 65_536;
 impl<D: PoolDisks> Session<D> {
     /// Starts a write.
     pub fn open(&mut self, alloc: Global, id: BlockId, stamp: Stamp, need: u64) -> Reply
-        requires stands { (state : RunState) × SessionStands D.worlds D.volume_count D.Draft.place D.Draft.bytes self.old state }
-        ensures step { (state : RunState) → SessionStands D.worlds D.volume_count D.Draft.place D.Draft.bytes self.old state →
-            CarriesOut (faulty_of D.Draft.place D.Draft.faults D.Reader.number D.Reader.faults) (D.worlds self.old.pool.disks)
-            state (mark_of D.faults D.next_number D.moment self.old.pool.disks) id (start_write stamp need) result (mark_of D.faults D.next_number D.moment self.new.pool.disks)
-            (SessionStands D.worlds D.volume_count D.Draft.place D.Draft.bytes self.new)
-            (SoundFor D.worlds D.volume_count D.Draft.place D.Draft.bytes self.old) (SoundFor D.worlds D.volume_count D.Draft.place D.Draft.bytes self.new)
-            (D.left_since self.old.pool.disks) (D.left_since self.new.pool.disks) }
-        ensures goes_on { GoesOn D.worlds D.faults D.next_number D.moment D.volume_count self.old.pool.disks self.new.pool.disks }
+        requires stands { SessionStandsForSome self.old }
+        ensures step { (state : RunState) → SessionStands self.old state →
+            SessionCarriesOut state id (start_write stamp need) result self.old self.new }
+        ensures goes_on { GoesOn D.PoolDisks self.old.pool.disks self.new.pool.disks }
     {
         if let Some(fault) = self.pool.write_refusal(id) {
             return refusal_of(fault);
@@ -51,14 +47,10 @@ impl<D: PoolDisks> Session<D> {
 
     /// Adds a piece to what a writer writes. Where its draft fails the writer is given up.
     pub fn push(&mut self, id: BlockId, piece: &[u8]) -> Reply
-        requires stands { (state : RunState) × SessionStands D.worlds D.volume_count D.Draft.place D.Draft.bytes self.old state }
-        ensures step { (state : RunState) → SessionStands D.worlds D.volume_count D.Draft.place D.Draft.bytes self.old state →
-            CarriesOut (faulty_of D.Draft.place D.Draft.faults D.Reader.number D.Reader.faults) (D.worlds self.old.pool.disks)
-            state (mark_of D.faults D.next_number D.moment self.old.pool.disks) id (push piece.now) result (mark_of D.faults D.next_number D.moment self.new.pool.disks)
-            (SessionStands D.worlds D.volume_count D.Draft.place D.Draft.bytes self.new)
-            (SoundFor D.worlds D.volume_count D.Draft.place D.Draft.bytes self.old) (SoundFor D.worlds D.volume_count D.Draft.place D.Draft.bytes self.new)
-            (D.left_since self.old.pool.disks) (D.left_since self.new.pool.disks) }
-        ensures goes_on { GoesOn D.worlds D.faults D.next_number D.moment D.volume_count self.old.pool.disks self.new.pool.disks }
+        requires stands { SessionStandsForSome self.old }
+        ensures step { (state : RunState) → SessionStands self.old state →
+            SessionCarriesOut state id (push piece.now) result self.old self.new }
+        ensures goes_on { GoesOn D.PoolDisks self.old.pool.disks self.new.pool.disks }
     {
         let Some(left) = self.writers.room_left(id) else {
             return Reply::NoWriter;
@@ -92,14 +84,10 @@ impl<D: PoolDisks> Session<D> {
 
     /// Ends a write: makes sure of what was pushed, and publishes it.
     pub fn finish(&mut self, id: BlockId) -> Reply
-        requires stands { (state : RunState) × SessionStands D.worlds D.volume_count D.Draft.place D.Draft.bytes self.old state }
-        ensures step { (state : RunState) → SessionStands D.worlds D.volume_count D.Draft.place D.Draft.bytes self.old state →
-            CarriesOut (faulty_of D.Draft.place D.Draft.faults D.Reader.number D.Reader.faults) (D.worlds self.old.pool.disks)
-            state (mark_of D.faults D.next_number D.moment self.old.pool.disks) id finish result (mark_of D.faults D.next_number D.moment self.new.pool.disks)
-            (SessionStands D.worlds D.volume_count D.Draft.place D.Draft.bytes self.new)
-            (SoundFor D.worlds D.volume_count D.Draft.place D.Draft.bytes self.old) (SoundFor D.worlds D.volume_count D.Draft.place D.Draft.bytes self.new)
-            (D.left_since self.old.pool.disks) (D.left_since self.new.pool.disks) }
-        ensures goes_on { GoesOn D.worlds D.faults D.next_number D.moment D.volume_count self.old.pool.disks self.new.pool.disks }
+        requires stands { SessionStandsForSome self.old }
+        ensures step { (state : RunState) → SessionStands self.old state →
+            SessionCarriesOut state id finish result self.old self.new }
+        ensures goes_on { GoesOn D.PoolDisks self.old.pool.disks self.new.pool.disks }
     {
         let writer = match self.writers.take(id) {
             Ok(writer) => writer,
@@ -123,14 +111,10 @@ impl<D: PoolDisks> Session<D> {
 
     /// Gives up a write: its files are removed.
     pub fn drop_writer(&mut self, id: BlockId) -> Reply
-        requires stands { (state : RunState) × SessionStands D.worlds D.volume_count D.Draft.place D.Draft.bytes self.old state }
-        ensures step { (state : RunState) → SessionStands D.worlds D.volume_count D.Draft.place D.Draft.bytes self.old state →
-            CarriesOut (faulty_of D.Draft.place D.Draft.faults D.Reader.number D.Reader.faults) (D.worlds self.old.pool.disks)
-            state (mark_of D.faults D.next_number D.moment self.old.pool.disks) id drop_write result (mark_of D.faults D.next_number D.moment self.new.pool.disks)
-            (SessionStands D.worlds D.volume_count D.Draft.place D.Draft.bytes self.new)
-            (SoundFor D.worlds D.volume_count D.Draft.place D.Draft.bytes self.old) (SoundFor D.worlds D.volume_count D.Draft.place D.Draft.bytes self.new)
-            (D.left_since self.old.pool.disks) (D.left_since self.new.pool.disks) }
-        ensures goes_on { GoesOn D.worlds D.faults D.next_number D.moment D.volume_count self.old.pool.disks self.new.pool.disks }
+        requires stands { SessionStandsForSome self.old }
+        ensures step { (state : RunState) → SessionStands self.old state →
+            SessionCarriesOut state id drop_write result self.old self.new }
+        ensures goes_on { GoesOn D.PoolDisks self.old.pool.disks self.new.pool.disks }
     {
         let Some(writer) = self.writers.remove(id) else {
             return Reply::NoWriter;
@@ -143,14 +127,10 @@ impl<D: PoolDisks> Session<D> {
 
     /// Reads a replica, after it was verified by its meta file.
     pub fn read(&mut self, alloc: Global, id: BlockId) -> Reply
-        requires stands { (state : RunState) × SessionStands D.worlds D.volume_count D.Draft.place D.Draft.bytes self.old state }
-        ensures step { (state : RunState) → SessionStands D.worlds D.volume_count D.Draft.place D.Draft.bytes self.old state →
-            CarriesOut (faulty_of D.Draft.place D.Draft.faults D.Reader.number D.Reader.faults) (D.worlds self.old.pool.disks)
-            state (mark_of D.faults D.next_number D.moment self.old.pool.disks) id read result (mark_of D.faults D.next_number D.moment self.new.pool.disks)
-            (SessionStands D.worlds D.volume_count D.Draft.place D.Draft.bytes self.new)
-            (SoundFor D.worlds D.volume_count D.Draft.place D.Draft.bytes self.old) (SoundFor D.worlds D.volume_count D.Draft.place D.Draft.bytes self.new)
-            (D.left_since self.old.pool.disks) (D.left_since self.new.pool.disks) }
-        ensures goes_on { GoesOn D.worlds D.faults D.next_number D.moment D.volume_count self.old.pool.disks self.new.pool.disks }
+        requires stands { SessionStandsForSome self.old }
+        ensures step { (state : RunState) → SessionStands self.old state →
+            SessionCarriesOut state id read result self.old self.new }
+        ensures goes_on { GoesOn D.PoolDisks self.old.pool.disks self.new.pool.disks }
     {
         let pair = match self.pool.start_read(alloc, id) {
             Ok(pair) => pair,
@@ -173,14 +153,10 @@ impl<D: PoolDisks> Session<D> {
 
     /// Deletes a block.
     pub fn delete(&mut self, id: BlockId) -> Reply
-        requires stands { (state : RunState) × SessionStands D.worlds D.volume_count D.Draft.place D.Draft.bytes self.old state }
-        ensures step { (state : RunState) → SessionStands D.worlds D.volume_count D.Draft.place D.Draft.bytes self.old state →
-            CarriesOut (faulty_of D.Draft.place D.Draft.faults D.Reader.number D.Reader.faults) (D.worlds self.old.pool.disks)
-            state (mark_of D.faults D.next_number D.moment self.old.pool.disks) id delete result (mark_of D.faults D.next_number D.moment self.new.pool.disks)
-            (SessionStands D.worlds D.volume_count D.Draft.place D.Draft.bytes self.new)
-            (SoundFor D.worlds D.volume_count D.Draft.place D.Draft.bytes self.old) (SoundFor D.worlds D.volume_count D.Draft.place D.Draft.bytes self.new)
-            (D.left_since self.old.pool.disks) (D.left_since self.new.pool.disks) }
-        ensures goes_on { GoesOn D.worlds D.faults D.next_number D.moment D.volume_count self.old.pool.disks self.new.pool.disks }
+        requires stands { SessionStandsForSome self.old }
+        ensures step { (state : RunState) → SessionStands self.old state →
+            SessionCarriesOut state id delete result self.old self.new }
+        ensures goes_on { GoesOn D.PoolDisks self.old.pool.disks self.new.pool.disks }
     {
         if let Some(fault) = self.pool.delete_refusal(id) {
             return delete_refusal_of(fault);
@@ -194,14 +170,10 @@ impl<D: PoolDisks> Session<D> {
     /// Carries out the command of a line that asks for something on one block.
     pub fn carry_out(&mut self, alloc: Global, line: Line) -> Reply
         requires command { is_on_block line ≡ true }
-        requires stands { (state : RunState) × SessionStands D.worlds D.volume_count D.Draft.place D.Draft.bytes self.old state }
-        ensures step { (state : RunState) → SessionStands D.worlds D.volume_count D.Draft.place D.Draft.bytes self.old state →
-            LineCarried (faulty_of D.Draft.place D.Draft.faults D.Reader.number D.Reader.faults) (D.worlds self.old.pool.disks)
-            state (mark_of D.faults D.next_number D.moment self.old.pool.disks) line result (mark_of D.faults D.next_number D.moment self.new.pool.disks)
-            (SessionStands D.worlds D.volume_count D.Draft.place D.Draft.bytes self.new)
-            (SoundFor D.worlds D.volume_count D.Draft.place D.Draft.bytes self.old) (SoundFor D.worlds D.volume_count D.Draft.place D.Draft.bytes self.new)
-            (D.left_since self.old.pool.disks) (D.left_since self.new.pool.disks) }
-        ensures goes_on { GoesOn D.worlds D.faults D.next_number D.moment D.volume_count self.old.pool.disks self.new.pool.disks }
+        requires stands { SessionStandsForSome self.old }
+        ensures step { (state : RunState) → SessionStands self.old state →
+            SessionCarriesLine state line result self.old self.new }
+        ensures goes_on { GoesOn D.PoolDisks self.old.pool.disks self.new.pool.disks }
     {
         match line {
             Line::Open { id, stamp, need } => self.open(alloc, id, stamp, need),

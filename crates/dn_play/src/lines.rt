@@ -7,7 +7,7 @@ ghost use Rattle.disk_model.specs.Told.{CanLeave};
 ghost use Rattle.pool_state.specs.Stands.{GoesOn};
 ghost use Rattle.pool_open.specs.Outcome.{HasTwoMetas};
 ghost use Rattle.dn_play.specs.State.{RunState};
-ghost use Rattle.dn_play.specs.Standing.{SessionStands, SoundFor, LeavesAllowed, AnyCells, faulty_of, mark_of};
+ghost use Rattle.dn_play.specs.Standing.{SessionStands, SoundFor, LeavesAllowed, AnyCells, faulty_of, mark_of, SessionStandsForSome};
 ghost use Rattle.dn_play.specs.Answer.{Played, IsOfLines, ending_at};
 
 use crate::answer::answer;
@@ -38,15 +38,15 @@ pub fn play_lines<D: PoolDisks, S: Source, K: Sink>(
     source: &mut S,
     sink: &mut K,
 ) -> Ending
-    requires stands { (state : RunState) × SessionStands D.worlds D.volume_count D.Draft.place D.Draft.bytes session.old state }
+    requires stands { SessionStandsForSome session.old }
     requires one_volume { D.volume_count session.old.pool.disks ≡ 1 }
-    ensures played { (state : RunState) → SessionStands D.worlds D.volume_count D.Draft.place D.Draft.bytes session.old state →
-        Played (faulty_of D.Draft.place D.Draft.faults D.Reader.number D.Reader.faults) (D.worlds session.old.pool.disks)
-        state (mark_of D.faults D.next_number D.moment session.old.pool.disks) (mark_of D.faults D.next_number D.moment session.new.pool.disks)
+    ensures played { (state : RunState) → SessionStands session.old state →
+        Played (faulty_of D.Draft.Draft D.Reader.Reader) (D.worlds session.old.pool.disks)
+        state (mark_of D.PoolDisks session.old.pool.disks) (mark_of D.PoolDisks session.new.pool.disks)
         (S.left source.old) (K.taken sink.old) (K.taken sink.new) result (LeavesAllowed (D.worlds session.new.pool.disks))
-        (SoundFor D.worlds D.volume_count D.Draft.place D.Draft.bytes session.old) AnyCells
+        (SoundFor session.old) AnyCells
         (D.left_since session.old.pool.disks) (D.left_since session.new.pool.disks) }
-    ensures goes_on { GoesOn D.worlds D.faults D.next_number D.moment D.volume_count session.old.pool.disks session.new.pool.disks }
+    ensures goes_on { GoesOn D.PoolDisks session.old.pool.disks session.new.pool.disks }
     ensures of_lines { IsOfLines result }
     ensures two_metas { result ≡ Ending.Later 0 → (image : Files) → CanLeave (D.worlds session.new.pool.disks) image → HasTwoMetas image }
     ensures at_end { result ≡ Ending.Complete → IsAtEnd (S.left source.new) }

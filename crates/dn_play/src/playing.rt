@@ -48,11 +48,11 @@ pub fn play<D: PoolDisks, S: Source, K: Sink>(
         Declines (Ending.Later 0) (K.taken sink.old) (K.taken sink.new) result.status × (source.new ≡ source.old) × (result.disks.items ≡ disks.items) }
     // Otherwise the pool is opened, and the lines of the script are carried out.
     ensures run { words_fit D.volume_count (map string_bytes words.now) disks.items ≡ true → words_are_later (map string_bytes words.now) ≡ false →
-        OfOne disks.items result.disks.items (λ before after. Runs (faulty_of D.Draft.place D.Draft.faults D.Reader.number D.Reader.faults)
+        OfOne disks.items result.disks.items (λ before after. Runs (faulty_of D.Draft.Draft D.Reader.Reader)
         (D.left_since after) (CanLeave (D.worlds after))
         (record {
-          entry = mark_of D.faults D.next_number D.moment before;
-          exit = mark_of D.faults D.next_number D.moment after;
+          entry = mark_of D.PoolDisks before;
+          exit = mark_of D.PoolDisks after;
           told = D.worlds before;
           input = S.left source.old;
         }) (K.taken sink.old) (K.taken sink.new) result.status) }

@@ -32,11 +32,11 @@ pub fn play_pool<D: PoolDisks, S: Source, K: Sink>(
 ) -> PoolRun<D>
     requires aside { InEachWorld (D.worlds disks) DraftsAside }
     requires one_volume { D.volume_count disks ≡ 1 }
-    ensures runs { RunsPool (faulty_of D.Draft.place D.Draft.faults D.Reader.number D.Reader.faults)
+    ensures runs { RunsPool (faulty_of D.Draft.Draft D.Reader.Reader)
         (D.left_since result.disks) (CanLeave (D.worlds result.disks))
         (record {
-          entry = mark_of D.faults D.next_number D.moment disks;
-          exit = mark_of D.faults D.next_number D.moment result.disks;
+          entry = mark_of D.PoolDisks disks;
+          exit = mark_of D.PoolDisks result.disks;
           told = D.worlds disks;
           input = S.left source.old;
         }) (K.taken sink.old) (K.taken sink.new) result.ending }

@@ -9,7 +9,7 @@ ghost use Rattle.script_lang.specs.declared.Line.TheVariants.{Reopen};
 ghost use Rattle.script_lang.specs.declared.reply.Reply.TheVariants.{Done};
 ghost use Rattle.dn_play.specs.State.{RunState};
 ghost use Rattle.dn_play.specs.Images.{StaysCrashSafe};
-ghost use Rattle.dn_play.specs.Standing.{SessionStands, SoundFor, LineCarried, faulty_of, mark_of};
+ghost use Rattle.dn_play.specs.Standing.{SessionStands, SoundFor, SessionStandsForSome, SessionCarriesLine};
 
 use crate::open_writers::OpenWriters;
 use crate::session::Session;
@@ -21,20 +21,16 @@ impl<D: PoolDisks> Session<D> {
     /// Drops all writers, closes the pool and opens it again. After an `Err` the session carries nothing out any more; only
     /// its disks are of use.
     pub fn reopen(&mut self, alloc: Global) -> Result<(), ReopenFault>
-        requires stands { (state : RunState) × SessionStands D.worlds D.volume_count D.Draft.place D.Draft.bytes self.old state }
+        requires stands { SessionStandsForSome self.old }
         requires one_volume { D.volume_count self.old.pool.disks ≡ 1 }
-        ensures ok { (state : RunState) → SessionStands D.worlds D.volume_count D.Draft.place D.Draft.bytes self.old state →
-            OnOk result (LineCarried (faulty_of D.Draft.place D.Draft.faults D.Reader.number D.Reader.faults) (D.worlds self.old.pool.disks)
-            state (mark_of D.faults D.next_number D.moment self.old.pool.disks) Reopen Done (mark_of D.faults D.next_number D.moment self.new.pool.disks)
-            (SessionStands D.worlds D.volume_count D.Draft.place D.Draft.bytes self.new)
-            (SoundFor D.worlds D.volume_count D.Draft.place D.Draft.bytes self.old) (SoundFor D.worlds D.volume_count D.Draft.place D.Draft.bytes self.new)
-            (D.left_since self.old.pool.disks) (D.left_since self.new.pool.disks)) }
-        ensures err { (state : RunState) → SessionStands D.worlds D.volume_count D.Draft.place D.Draft.bytes self.old state →
-            OnErr result (StaysCrashSafe state.cells (SoundFor D.worlds D.volume_count D.Draft.place D.Draft.bytes self.old)
+        ensures ok { (state : RunState) → SessionStands self.old state →
+            OnOk result (SessionCarriesLine state Reopen Done self.old self.new) }
+        ensures err { (state : RunState) → SessionStands self.old state →
+            OnErr result (StaysCrashSafe state.cells (SoundFor self.old)
             (D.left_since self.old.pool.disks) (D.left_since self.new.pool.disks)) }
         ensures failed { IsErrOf result ReopenFault.Failed → Rose (D.faults self.old.pool.disks) (D.faults self.new.pool.disks) }
         ensures two_metas { IsErrOf result ReopenFault.Later → (image : Files) → CanLeave (D.worlds self.new.pool.disks) image → HasTwoMetas image }
-        ensures goes_on { GoesOn D.worlds D.faults D.next_number D.moment D.volume_count self.old.pool.disks self.new.pool.disks }
+        ensures goes_on { GoesOn D.PoolDisks self.old.pool.disks self.new.pool.disks }
     {
         self.writers = OpenWriters::new(alloc);
         reopen_pool(alloc, &mut self.pool)

@@ -3,7 +3,7 @@ ghost use Rattle.std.specs.Prelude.{◌≡◌, ◌<◌, ℕ};
 ghost use Rattle.map_model.specs.Steps.{write};
 ghost use Rattle.pool_state.specs.Stands.{GoesOn};
 ghost use Rattle.dn_play.specs.State.{RunState};
-ghost use Rattle.dn_play.specs.Standing.{SessionStands, SoundFor, CarriesOut, faulty_of, mark_of};
+ghost use Rattle.dn_play.specs.Standing.{SessionStands, SessionStandsForSome, SessionCarriesOut};
 
 use crate::refusals::{end_reply_of, refusal_of};
 use crate::session::Session;
@@ -16,14 +16,10 @@ use volume_layout::{BlockId, Stamp};
 impl<D: PoolDisks> Session<D> {
     /// Writes a whole block: starts a write of its length, fills it, and ends it.
     pub fn write(&mut self, alloc: Global, id: BlockId, stamp: Stamp, piece: &[u8]) -> Reply
-        requires stands { (state : RunState) × SessionStands D.worlds D.volume_count D.Draft.place D.Draft.bytes self.old state }
-        ensures step { (state : RunState) → SessionStands D.worlds D.volume_count D.Draft.place D.Draft.bytes self.old state →
-            CarriesOut (faulty_of D.Draft.place D.Draft.faults D.Reader.number D.Reader.faults) (D.worlds self.old.pool.disks)
-            state (mark_of D.faults D.next_number D.moment self.old.pool.disks) id (write stamp piece.now) result (mark_of D.faults D.next_number D.moment self.new.pool.disks)
-            (SessionStands D.worlds D.volume_count D.Draft.place D.Draft.bytes self.new)
-            (SoundFor D.worlds D.volume_count D.Draft.place D.Draft.bytes self.old) (SoundFor D.worlds D.volume_count D.Draft.place D.Draft.bytes self.new)
-            (D.left_since self.old.pool.disks) (D.left_since self.new.pool.disks) }
-        ensures goes_on { GoesOn D.worlds D.faults D.next_number D.moment D.volume_count self.old.pool.disks self.new.pool.disks }
+        requires stands { SessionStandsForSome self.old }
+        ensures step { (state : RunState) → SessionStands self.old state →
+            SessionCarriesOut state id (write stamp piece.now) result self.old self.new }
+        ensures goes_on { GoesOn D.PoolDisks self.old.pool.disks self.new.pool.disks }
     {
         if let Some(fault) = self.pool.write_refusal(id) {
             return refusal_of(fault);

@@ -2,6 +2,7 @@
 use Rattle.std.proofs.Common.{◌≡◌, ◌⊎◌, ◌↔◌, ◌<◌, ◌≤◌, inl, inr, ℕ, true, List, [], ◌∷◌, Option, None, Some, All, Contains, length, get_or, refl, ap, sym, ◌∙◌, subst, arith, IsSome}
 use Rattle.std.proofs.lemmas.Bool.{false≢true}
 use Rattle.std.proofs.lemmas.List.Elements.{All-contains, All-get_or, Contains-get_or}
+use Rattle.disk_model.specs.declared.disks.PoolDisks.{Ghosts}
 use Rattle.disk_model.specs.Files.{Files}
 use Rattle.disk_model.specs.Worlds.{World}
 use Rattle.disk_model.specs.Told.{InEachWorld, PicksOne, CanLeave, Leaves}
@@ -32,23 +33,23 @@ use Rattle.pool_open.proofs.Opens.{IsOpening, cleared_reads_back, surveyed, in_b
 
 -- ---- looking
 
-module _ {D : Type 0} (worlds_of : D → Option (List World)) (faults_of number_of moment_of volumes_of : D → ℕ) (left_of : D → ℕ → Files → Type 0) (old new : D) where
+module _ {D S T R : Type 0} (g : Ghosts D S T R) (old new : D) where
   -- a call that looks
-  pub looked : Remains (worlds_of old) (worlds_of new) → IsSome (worlds_of old) ↔ IsSome (worlds_of new) → faults_of old ≤ faults_of new → number_of new ≡ number_of old →
-      volumes_of new ≡ volumes_of old → Elapses (moment_of old) (moment_of new) (left_of old) (left_of new) (CanLeave (worlds_of new)) →
-      OnlyLooks worlds_of faults_of number_of moment_of volumes_of left_of old new
+  pub looked : Remains (g.worlds old) (g.worlds new) → IsSome (g.worlds old) ↔ IsSome (g.worlds new) → g.faults old ≤ g.faults new → g.next_number new ≡ g.next_number old →
+      g.volume_count new ≡ g.volume_count old → Elapses (g.moment old) (g.moment new) (g.left_since old) (g.left_since new) (CanLeave (g.worlds new)) →
+      OnlyLooks g old new
   looked remains honest faults numbers volumes time = record {
     remains = remains;
     goes_on = record { honest = honest; faults = faults; next_number = omega (arith, numbers); moment = time.later; volume_count = volumes };
     images = λ t image left. elim (time.nothing_else t image left) [
       | inl earlier ↦ inl earlier
-      | inr leaves ↦ inr (leaves_before (worlds_of old) (worlds_of new) remains image leaves)
+      | inr leaves ↦ inr (leaves_before (g.worlds old) (g.worlds new) remains image leaves)
     ];
   }
 
   -- what is left where calls only looked reads as some world did
-  pub looked_images : OnlyLooks worlds_of faults_of number_of moment_of volumes_of left_of old new → InEachWorld (worlds_of old) DraftsAside →
-      AddsOnly (left_of old) (left_of new) (ReadsAsOne (worlds_of old))
+  pub looked_images : OnlyLooks g old new → InEachWorld (g.worlds old) DraftsAside →
+      AddsOnly (g.left_since old) (g.left_since new) (ReadsAsOne (g.worlds old))
   looked_images looks aside t image left = elim (looks.images t image left) [
     | inl earlier ↦ inl earlier
     | inr leaves ↦ inr (leaves.0, leaves.1, world_reads_back leaves.0 image (aside leaves.0 leaves.1) leaves.2)

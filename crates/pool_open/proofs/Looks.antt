@@ -1,6 +1,7 @@
 -- Calls that look, one after the other.
 use Rattle.std.proofs.Common.{◌≡◌, ◌≤◌, ◌↔◌, inl, inr, ℕ, List, Option, IsSome, refl, ◌∙◌, arith}
 use Rattle.disk_model.specs.Files.{Files}
+use Rattle.disk_model.specs.declared.disks.PoolDisks.{Ghosts}
 use Rattle.disk_model.specs.Worlds.{World}
 use Rattle.disk_model.specs.Told.{CanLeave}
 use Rattle.pool_state.specs.Stands.{GoesOn}
@@ -10,22 +11,22 @@ use Rattle.pool_open.specs.Looking.{OnlyLooks}
 pub leaves_before : (old new : Option (List World)) → Remains old new → (image : Files) → CanLeave new image → CanLeave old image
 leaves_before old new remains image leaves = (leaves.0, remains leaves.0 leaves.1, leaves.2)
 
-module _ {D : Type 0} (worlds_of : D → Option (List World)) (faults_of number_of moment_of volumes_of : D → ℕ) (left_of : D → ℕ → Files → Type 0) where
+module _ {D S T R : Type 0} (g : Ghosts D S T R) where
   -- no call
-  pub looks_none : (one : D) → OnlyLooks worlds_of faults_of number_of moment_of volumes_of left_of one one
+  pub looks_none : (one : D) → OnlyLooks g one one
   looks_none one = record {
     remains = λ world is. is;
     goes_on = record { honest = (λ some. some, λ some. some); faults = omega arith; next_number = omega arith; moment = omega arith; volume_count = refl };
     images = λ t image left. inl left;
   }
 
-  pub goes_by : (old new : D) → IsSome (worlds_of old) ↔ IsSome (worlds_of new) → faults_of old ≤ faults_of new → number_of new ≡ number_of old → moment_of old ≤ moment_of new →
-      volumes_of new ≡ volumes_of old → GoesOn worlds_of faults_of number_of moment_of volumes_of old new
+  pub goes_by : (old new : D) → IsSome (g.worlds old) ↔ IsSome (g.worlds new) → g.faults old ≤ g.faults new → g.next_number new ≡ g.next_number old → g.moment old ≤ g.moment new →
+      g.volume_count new ≡ g.volume_count old → GoesOn g old new
   goes_by old new honest faults numbers moment volumes =
       record { honest = honest; faults = faults; next_number = omega (arith, numbers); moment = moment; volume_count = volumes }
 
-  pub goes_then : (one two three : D) → GoesOn worlds_of faults_of number_of moment_of volumes_of one two → GoesOn worlds_of faults_of number_of moment_of volumes_of two three →
-      GoesOn worlds_of faults_of number_of moment_of volumes_of one three
+  pub goes_then : (one two three : D) → GoesOn g one two → GoesOn g two three →
+      GoesOn g one three
   goes_then one two three first second = record {
     honest = (λ some. second.honest.0 (first.honest.0 some), λ some. first.honest.1 (second.honest.1 some));
     faults = omega (arith, first.faults, second.faults);
@@ -34,13 +35,13 @@ module _ {D : Type 0} (worlds_of : D → Option (List World)) (faults_of number_
     volume_count = second.volume_count ∙ first.volume_count;
   }
 
-  pub looks_then : (one two three : D) → OnlyLooks worlds_of faults_of number_of moment_of volumes_of left_of one two →
-      OnlyLooks worlds_of faults_of number_of moment_of volumes_of left_of two three → OnlyLooks worlds_of faults_of number_of moment_of volumes_of left_of one three
+  pub looks_then : (one two three : D) → OnlyLooks g one two →
+      OnlyLooks g two three → OnlyLooks g one three
   looks_then one two three first second = record {
     remains = λ world is. first.remains world (second.remains world is);
     goes_on = goes_then one two three first.goes_on second.goes_on;
     images = λ t image left. elim (second.images t image left) [
       | inl earlier ↦ first.images t image earlier
-      | inr leaves ↦ inr (leaves_before (worlds_of one) (worlds_of two) first.remains image leaves)
+      | inr leaves ↦ inr (leaves_before (g.worlds one) (g.worlds two) first.remains image leaves)
     ];
   }

@@ -1,6 +1,10 @@
 -- What an opening gives.
 use Rattle.std.specs.Prelude.{ℕ, ◌≡◌, ◌≢◌, ◌⊎◌, Bool, IsTrue, List, [], ◌∷◌, Option, Some, IsSome, Result, Ok, Err}
 use Rattle.volume_layout.specs.Paths.{IsBlockId, IsStamp, meta_path}
+use Rattle.disk_model.specs.declared.disks.PoolDisks.{Ghosts}
+use Rattle.disk_model.specs.declared.disks.Draft as drafts
+use Rattle.disk_model.specs.declared.disks.SealedDraft as sealed
+use Rattle.disk_model.specs.declared.disks.Reader as readers
 use Rattle.disk_model.specs.Files.{Files}
 use Rattle.disk_model.specs.Worlds.{World}
 use Rattle.disk_model.specs.Told.{IsWorldOf, InEachWorld, CanLeave}
@@ -39,7 +43,8 @@ fault_disks (Memory disks) = disks
 fault_disks (Later disks) = disks
 
 -- the disks in the pool, or in the fault
-abbrev pub disks_of : {D S T R : Type 0} → Result (Pool D S T R) (OpenFault D) → D
+abbrev pub disks_of : {D S T R : Type 0} {g : Ghosts D S T R} {d : drafts.Ghosts T S} {s : sealed.Ghosts S} {r : readers.Ghosts R} →
+    Result (Pool D S T R g d s r) (OpenFault D) → D
 disks_of (Ok pool) = pool.disks
 disks_of (Err fault) = fault_disks fault
 

@@ -23,7 +23,7 @@ use volume_layout::{BlockId, Stamp, block_path, rbw_block};
 fn size_of<D: PoolDisks>(disks: &mut D, path: &str) -> Result<u64, DiskError>
     requires some_volume { 1 ≤ D.volume_count disks.old }
     ensures size { IfOk result (IsSizeOf (D.worlds disks.new) path.now) }
-    ensures looks { OnlyLooks D.worlds D.faults D.next_number D.moment D.volume_count D.left_since disks.old disks.new }
+    ensures looks { OnlyLooks D.PoolDisks disks.old disks.new }
     ensures failed { IsErrOf result DiskError.Failed → Rose (D.faults disks.old) (D.faults disks.new) }
 {
     match disks.size(VOLUME, path) {
@@ -36,7 +36,7 @@ fn size_of<D: PoolDisks>(disks: &mut D, path: &str) -> Result<u64, DiskError>
 /// The size of a file that may stand.
 fn size_where<D: PoolDisks>(disks: &mut D, stands: bool, path: &str) -> Result<u64, DiskError>
     requires some_volume { 1 ≤ D.volume_count disks.old }
-    ensures looks { OnlyLooks D.worlds D.faults D.next_number D.moment D.volume_count D.left_since disks.old disks.new }
+    ensures looks { OnlyLooks D.PoolDisks disks.old disks.new }
     ensures failed { IsErrOf result DiskError.Failed → Rose (D.faults disks.old) (D.faults disks.new) }
 {
     if stands { size_of(disks, path) } else { Ok(0) }
@@ -155,7 +155,7 @@ fn add_waiting<D: PoolDisks>(
     requires nothing { SaysNothing id books.old }
     ensures says { OnOk result (IsWaitingEntry id files.now (entry_at books.new id) (found_at books.new id)) }
     ensures others { OnOk result (KeepsOthers id books.old books.new) }
-    ensures looks { OnlyLooks D.worlds D.faults D.next_number D.moment D.volume_count D.left_since disks.old disks.new }
+    ensures looks { OnlyLooks D.PoolDisks disks.old disks.new }
     ensures failed { IsErrOf result DiskError.Failed → Rose (D.faults disks.old) (D.faults disks.new) }
 {
     let stamp = greatest_stamp(&files.writing_metas);
@@ -191,7 +191,7 @@ fn add_final<D: PoolDisks>(
     requires nothing { SaysNothing id books.old }
     ensures says { OnOk result (IsFinalEntry (D.worlds disks.new) id stamp (entry_at books.new id) (found_at books.new id)) }
     ensures others { OnOk result (KeepsOthers id books.old books.new) }
-    ensures looks { OnlyLooks D.worlds D.faults D.next_number D.moment D.volume_count D.left_since disks.old disks.new }
+    ensures looks { OnlyLooks D.PoolDisks disks.old disks.new }
     ensures failed { IsErrOf result DiskError.Failed → Rose (D.faults disks.old) (D.faults disks.new) }
 {
     let len = size_of(disks, block_path(id).as_str())?;
@@ -216,7 +216,7 @@ fn add_block<D: PoolDisks>(
     requires nothing { SaysNothing id books.old }
     ensures says { OnOk result (SaysOutcome (outcome_of files.now) (D.worlds disks.new) id files.now (entry_at books.new id) (found_at books.new id)) }
     ensures others { OnOk result (KeepsOthers id books.old books.new) }
-    ensures looks { OnlyLooks D.worlds D.faults D.next_number D.moment D.volume_count D.left_since disks.old disks.new }
+    ensures looks { OnlyLooks D.PoolDisks disks.old disks.new }
     ensures failed { IsErrOf result DiskError.Failed → Rose (D.faults disks.old) (D.faults disks.new) }
 {
     match decide(files) {
@@ -236,7 +236,7 @@ pub fn make_books<D: PoolDisks>(
     requires blocks { AreBlocks blocks.now }
     ensures says { IfOk result (λ books. (id : ℕ) →
         SaysFound (D.worlds disks.new) id (found_of blocks.now id) (entry_at books id) (found_at books id)) }
-    ensures looks { OnlyLooks D.worlds D.faults D.next_number D.moment D.volume_count D.left_since disks.old disks.new }
+    ensures looks { OnlyLooks D.PoolDisks disks.old disks.new }
     ensures failed { IsErrOf result DiskError.Failed → Rose (D.faults disks.old) (D.faults disks.new) }
 {
     let mut books = ReplicaMap::make(alloc);

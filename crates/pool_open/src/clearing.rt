@@ -18,7 +18,7 @@ pub fn clear_paths<D: PoolDisks>(disks: &mut D, paths: &[String]) -> Result<(), 
     ensures some { InEachWorld (D.worlds disks.new) (ComesCleared (texts paths.now) (D.worlds disks.old)) }
     ensures all { OnOk result (InEachWorld (D.worlds disks.new) (AreClear (texts paths.now))) }
     ensures images { AddsOnly (D.left_since disks.old) (D.left_since disks.new) (LeftCleared (texts paths.now) (D.worlds disks.old)) }
-    ensures goes_on { GoesOn D.worlds D.faults D.next_number D.moment D.volume_count disks.old disks.new }
+    ensures goes_on { GoesOn D.PoolDisks disks.old disks.new }
     ensures failed { IsErr result → Rose (D.faults disks.old) (D.faults disks.new) }
 {
     for at in 0..paths.len() {

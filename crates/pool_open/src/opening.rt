@@ -48,7 +48,7 @@ pub fn open_pool<D: PoolDisks>(alloc: Global, disks: D) -> Result<Pool<D>, OpenF
     ensures opened { IfOk result (λ pool. Opens (D.worlds disks) (D.worlds pool.disks) (D.volume_count pool.disks)
         (entry_at pool.map) (found_at pool.map) (D.left_since disks) (D.left_since pool.disks)) }
     ensures images { AddsOnly (D.left_since disks) (D.left_since (disks_of result)) (ReadsAsOne (D.worlds disks)) }
-    ensures goes_on { GoesOn D.worlds D.faults D.next_number D.moment D.volume_count disks (disks_of result) }
+    ensures goes_on { GoesOn D.PoolDisks disks (disks_of result) }
     ensures failed { (d : _) → result ≡ Err (OpenFault.Failed d) → Rose (D.faults disks) (D.faults d) }
     ensures memory { (d : _) → result ≡ Err (OpenFault.Memory d) → Remains (D.worlds disks) (D.worlds d) }
     ensures unchanged { (d : _) → result ≡ Err (OpenFault.Later d) → Remains (D.worlds disks) (D.worlds d) }
@@ -80,7 +80,7 @@ pub fn reopen_pool<D: PoolDisks>(alloc: Global, pool: &mut Pool<D>) -> Result<()
     ensures opened { OnOk result (Opens (D.worlds pool.old.disks) (D.worlds pool.new.disks) (D.volume_count pool.new.disks)
         (entry_at pool.new.map) (found_at pool.new.map) (D.left_since pool.old.disks) (D.left_since pool.new.disks)) }
     ensures images { AddsOnly (D.left_since pool.old.disks) (D.left_since pool.new.disks) (ReadsAsOne (D.worlds pool.old.disks)) }
-    ensures goes_on { GoesOn D.worlds D.faults D.next_number D.moment D.volume_count pool.old.disks pool.new.disks }
+    ensures goes_on { GoesOn D.PoolDisks pool.old.disks pool.new.disks }
     ensures failed { IsErrOf result ReopenFault.Failed → Rose (D.faults pool.old.disks) (D.faults pool.new.disks) }
     ensures memory { IsErrOf result ReopenFault.Memory → Remains (D.worlds pool.old.disks) (D.worlds pool.new.disks) }
     ensures unchanged { IsErrOf result ReopenFault.Later → Remains (D.worlds pool.old.disks) (D.worlds pool.new.disks) }

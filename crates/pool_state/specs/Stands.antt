@@ -1,5 +1,9 @@
 -- When a pool stands for cells.
 use Rattle.std.specs.Prelude.{ℕ, ◌≡◌, ◌≤◌, ◌==◌, if◌then◌else◌, Bool, false, IsFalse, List, [], Option, None, Some, IfSome, IsSome, ◌↔◌, option_map}
+use Rattle.disk_model.specs.declared.disks.PoolDisks.{Ghosts}
+use Rattle.disk_model.specs.declared.disks.Draft as drafts
+use Rattle.disk_model.specs.declared.disks.SealedDraft as sealed
+use Rattle.disk_model.specs.declared.disks.Reader as readers
 use Rattle.disk_model.specs.Worlds.{World}
 use Rattle.disk_model.specs.Told.{InEachWorld}
 use Rattle.volume_layout.specs.Paths.{IsBlockId}
@@ -51,18 +55,18 @@ pub record HoldNoBlock (told : Option (List World)) : Type 0 where
   pub aside : InEachWorld told DraftsAside
 
 -- the disks went on: they tell as before, no count falls, and they have their volumes
-pub record GoesOn {D : Type 0} (worlds_of : D → Option (List World)) (faults_of number_of moment_of volumes_of : D → ℕ) (old new : D) : Type 0 where
-  pub honest : IsSome (worlds_of old) ↔ IsSome (worlds_of new)
-  pub faults : faults_of old ≤ faults_of new
-  pub next_number : number_of old ≤ number_of new
-  pub moment : moment_of old ≤ moment_of new
-  pub volume_count : volumes_of new ≡ volumes_of old
+pub record GoesOn {D S T R : Type 0} (g : Ghosts D S T R) (old new : D) : Type 0 where
+  pub honest : IsSome (g.worlds old) ↔ IsSome (g.worlds new)
+  pub faults : g.faults old ≤ g.faults new
+  pub next_number : g.next_number old ≤ g.next_number new
+  pub moment : g.moment old ≤ g.moment new
+  pub volume_count : g.volume_count new ≡ g.volume_count old
 
-module _ {D S T R : Type 0} (worlds : D → Option (List World)) (volume_count : D → ℕ) where
+module _ {D S T R : Type 0} {g : Ghosts D S T R} {d : drafts.Ghosts T S} {s : sealed.Ghosts S} {r : readers.Ghosts R} where
   -- a pool stands for cells, its disks having begun sound or not
-  abbrev pub Stands : Pool D S T R → Bool → Cells → Type 0
-  Stands pool = PoolStands (worlds pool.disks) (volume_count pool.disks) (entry_at pool.map) (found_at pool.map)
+  abbrev pub Stands : Pool D S T R g d s r → Bool → Cells → Type 0
+  Stands pool = PoolStands (g.worlds pool.disks) (g.volume_count pool.disks) (entry_at pool.map) (found_at pool.map)
 
   -- a pool stands for some cells
-  abbrev pub StandsForSome : Pool D S T R → Type 0
+  abbrev pub StandsForSome : Pool D S T R g d s r → Type 0
   StandsForSome pool = (cells : Cells) × Stands pool false cells

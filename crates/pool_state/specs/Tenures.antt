@@ -1,7 +1,9 @@
 -- What a tenure of a pool does, in the pool before and after it.
-use Rattle.std.specs.Prelude.{ℕ, ◌≡◌, List, Option, Some, None, Result, IsOk, IsErrOf}
-use Rattle.disk_model.specs.Files.{Files}
-use Rattle.disk_model.specs.Worlds.{World}
+use Rattle.std.specs.Prelude.{ℕ, ◌≡◌, Option, Some, None, Result, IsOk, IsErrOf}
+use Rattle.disk_model.specs.declared.disks.PoolDisks.{Ghosts}
+use Rattle.disk_model.specs.declared.disks.Draft as drafts
+use Rattle.disk_model.specs.declared.disks.SealedDraft as sealed
+use Rattle.disk_model.specs.declared.disks.Reader as readers
 use Rattle.map_model.specs.Cells.{Cell, Cells, absent}
 use Rattle.map_model.specs.Steps.{Command, Reply, delete, half_deleted}
 use Rattle.pool_state.specs.declared.pool_record.Pool.{Pool}
@@ -19,17 +21,17 @@ state_refusal (Writing block_number meta_number) = Some IsWrittenNow
 state_refusal Unsure = None
 state_refusal (Waiting block_left meta_left) = None
 
-module _ {D S T R : Type 0} (worlds : D → Option (List World)) (volume_count : D → ℕ) (left_since : D → ℕ → Files → Type 0) where
+module _ {D S T R : Type 0} {g : Ghosts D S T R} {d : drafts.Ghosts T S} {s : sealed.Ghosts S} {r : readers.Ghosts R} where
   -- it takes a step of the cells
-  abbrev pub Takes : (id : ℕ) → Command → Reply → (Cell → Type 0) → Cells → (old new : Pool D S T R) → Type 0
+  abbrev pub Takes : (id : ℕ) → Command → Reply → (Cell → Type 0) → Cells → (old new : Pool D S T R g d s r) → Type 0
   Takes id command answer Says cells old new =
-      TakesStep id command answer Says cells (Stands worlds volume_count old) (Stands worlds volume_count new) (left_since old.disks) (left_since new.disks)
+      TakesStep id command answer Says cells (Stands old) (Stands new) (g.left_since old.disks) (g.left_since new.disks)
 
   -- it leaves the cells
-  abbrev pub Rests : Cells → (old new : Pool D S T R) → Type 0
-  Rests cells old new = IsQuiet cells (Stands worlds volume_count old) (Stands worlds volume_count new) (left_since old.disks) (left_since new.disks)
+  abbrev pub Rests : Cells → (old new : Pool D S T R g d s r) → Type 0
+  Rests cells old new = IsQuiet cells (Stands old) (Stands new) (g.left_since old.disks) (g.left_since new.disks)
 
   -- it deletes a block: the block is absent, or what a deletion that failed leaves
-  abbrev pub Deletes : {U : Type 0} → (id : ℕ) → Result U DeleteFault → Cells → (old new : Pool D S T R) → Type 0
+  abbrev pub Deletes : {U : Type 0} → (id : ℕ) → Result U DeleteFault → Cells → (old new : Pool D S T R g d s r) → Type 0
   Deletes id result cells old new = Takes id delete (delete_reply result)
       (λ cell. (IsErrOf result Failed → cell ≡ half_deleted (cells id)) × (IsOk result → cell ≡ absent)) cells old new

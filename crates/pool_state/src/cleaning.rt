@@ -27,7 +27,7 @@ pub fn remove_files<D: PoolDisks>(
     requires high { vol ≤ D.volume_count disks.old }
     ensures removes { RemovesFiles id vol (map file_is files.now) (IsOk result) (D.worlds disks.old) (D.worlds disks.new) (D.left_since disks.old) (D.left_since disks.new) }
     ensures valid { IsBlockId id }
-    ensures goes_on { GoesOn D.worlds D.faults D.next_number D.moment D.volume_count disks.old disks.new }
+    ensures goes_on { GoesOn D.PoolDisks disks.old disks.new }
     ensures failed { IsErr result → Rose (D.faults disks.old) (D.faults disks.new) }
 {
     let _valid = id.get();
@@ -52,13 +52,13 @@ impl<D: PoolDisks> Pool<D> {
     ) -> Result<(), Failed>
         requires entry { entry_at self.old.map id ≡ Some entry.now }
         requires state { entry.now.state ≡ Waiting block meta }
-        requires stands { StandsForSome D.worlds D.volume_count self.old }
-        ensures quiet { (cells : Cells) → Stands D.worlds D.volume_count self.old false cells → Rests D.worlds D.volume_count D.left_since cells self.old self.new }
+        requires stands { StandsForSome self.old }
+        ensures quiet { (cells : Cells) → Stands self.old false cells → Rests cells self.old self.new }
         ensures done { OnOk result (entry_at self.new.map id ≡ Some (with_state (Waiting false false) entry.now)) }
         ensures none { OnOk result (found_at self.new.map id ≡ []) }
         ensures valid { IsBlockId id }
         ensures others { (other : ℕ) → other ≢ id → entry_at self.new.map other ≡ entry_at self.old.map other }
-        ensures goes_on { GoesOn D.worlds D.faults D.next_number D.moment D.volume_count self.old.disks self.new.disks }
+        ensures goes_on { GoesOn D.PoolDisks self.old.disks self.new.disks }
         ensures failed { IsErr result → Rose (D.faults self.old.disks) (D.faults self.new.disks) }
     {
         let _valid = id.get();
@@ -77,11 +77,11 @@ impl<D: PoolDisks> Pool<D> {
     ) -> Result<(), Failed>
         requires entry { entry_at self.old.map id ≡ Some entry.now }
         requires state { entry.now.state ≡ Waiting block meta }
-        requires stands { StandsForSome D.worlds D.volume_count self.old }
-        ensures quiet { (cells : Cells) → Stands D.worlds D.volume_count self.old false cells → Rests D.worlds D.volume_count D.left_since cells self.old self.new }
+        requires stands { StandsForSome self.old }
+        ensures quiet { (cells : Cells) → Stands self.old false cells → Rests cells self.old self.new }
         ensures done { OnOk result (entry_at self.new.map id ≡ Some (with_state (Waiting false meta) entry.now)) }
         ensures others { (other : ℕ) → other ≢ id → entry_at self.new.map other ≡ entry_at self.old.map other }
-        ensures goes_on { GoesOn D.worlds D.faults D.next_number D.moment D.volume_count self.old.disks self.new.disks }
+        ensures goes_on { GoesOn D.PoolDisks self.old.disks self.new.disks }
         ensures failed { IsErr result → Rose (D.faults self.old.disks) (D.faults self.new.disks) }
     {
         if !block {
@@ -97,11 +97,11 @@ impl<D: PoolDisks> Pool<D> {
     /// Removes the meta file of a writer that was given up, where it may stand.
     fn clean_meta(&mut self, id: BlockId, entry: &Entry, meta: bool) -> Result<(), Failed>
         requires entry { entry_at self.old.map id ≡ Some (with_state (Waiting false meta) entry.now) }
-        requires stands { StandsForSome D.worlds D.volume_count self.old }
-        ensures quiet { (cells : Cells) → Stands D.worlds D.volume_count self.old false cells → Rests D.worlds D.volume_count D.left_since cells self.old self.new }
+        requires stands { StandsForSome self.old }
+        ensures quiet { (cells : Cells) → Stands self.old false cells → Rests cells self.old self.new }
         ensures done { OnOk result (entry_at self.new.map id ≡ Some (with_state (Waiting false false) entry.now)) }
         ensures others { (other : ℕ) → other ≢ id → entry_at self.new.map other ≡ entry_at self.old.map other }
-        ensures goes_on { GoesOn D.worlds D.faults D.next_number D.moment D.volume_count self.old.disks self.new.disks }
+        ensures goes_on { GoesOn D.PoolDisks self.old.disks self.new.disks }
         ensures failed { IsErr result → Rose (D.faults self.old.disks) (D.faults self.new.disks) }
     {
         if !meta {
@@ -123,11 +123,11 @@ impl<D: PoolDisks> Pool<D> {
 
     /// Removes the files that the opening found of a block. One that was removed is no longer listed.
     fn clean_found(&mut self, id: BlockId) -> Result<(), Failed>
-        requires stands { StandsForSome D.worlds D.volume_count self.old }
-        ensures quiet { (cells : Cells) → Stands D.worlds D.volume_count self.old false cells → Rests D.worlds D.volume_count D.left_since cells self.old self.new }
+        requires stands { StandsForSome self.old }
+        ensures quiet { (cells : Cells) → Stands self.old false cells → Rests cells self.old self.new }
         ensures done { OnOk result (found_at self.new.map id ≡ []) }
         ensures entries { (other : ℕ) → entry_at self.new.map other ≡ entry_at self.old.map other }
-        ensures goes_on { GoesOn D.worlds D.faults D.next_number D.moment D.volume_count self.old.disks self.new.disks }
+        ensures goes_on { GoesOn D.PoolDisks self.old.disks self.new.disks }
         ensures failed { IsErr result → Rose (D.faults self.old.disks) (D.faults self.new.disks) }
     {
         for _ in 0..self.map.found.len() {
@@ -142,11 +142,11 @@ impl<D: PoolDisks> Pool<D> {
     /// Removes a file that the opening found of a block, the first one.
     fn clean_one(&mut self, id: BlockId, at: usize) -> Result<(), Failed>
         requires first { IsFirstOf id self.old.map.found.items at }
-        requires stands { StandsForSome D.worlds D.volume_count self.old }
-        ensures quiet { (cells : Cells) → Stands D.worlds D.volume_count self.old false cells → Rests D.worlds D.volume_count D.left_since cells self.old self.new }
+        requires stands { StandsForSome self.old }
+        ensures quiet { (cells : Cells) → Stands self.old false cells → Rests cells self.old self.new }
         ensures fewer { OnOk result (suc (length self.new.map.found.items) ≡ length self.old.map.found.items) }
         ensures entries { (other : ℕ) → entry_at self.new.map other ≡ entry_at self.old.map other }
-        ensures goes_on { GoesOn D.worlds D.faults D.next_number D.moment D.volume_count self.old.disks self.new.disks }
+        ensures goes_on { GoesOn D.PoolDisks self.old.disks self.new.disks }
         ensures failed { IsErr result → Rose (D.faults self.old.disks) (D.faults self.new.disks) }
     {
         let _valid = id.get();

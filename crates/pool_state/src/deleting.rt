@@ -31,9 +31,9 @@ pub enum DeleteFault {
 impl<D: PoolDisks> Pool<D> {
     /// Why a deletion of a block would be refused; none where it has files to be deleted, and no writer.
     pub fn delete_refusal(&self, id: BlockId) -> Option<DeleteFault>
-        ensures refused { (cells : Cells) → Stands D.worlds D.volume_count self.now false cells →
+        ensures refused { (cells : Cells) → Stands self.now false cells →
             IfSome result (λ fault. Step unlimited (cells id) delete (delete_fault fault) (cells id)) }
-        ensures none { (cells : Cells) → Stands D.worlds D.volume_count self.now false cells → result ≡ None → delete_refusal (cells id) ≡ None }
+        ensures none { (cells : Cells) → Stands self.now false cells → result ≡ None → delete_refusal (cells id) ≡ None }
         ensures valid { IsBlockId id }
         ensures not_failed { IfSome result (λ fault. fault ≢ DeleteFault.Failed) }
     {
@@ -46,10 +46,10 @@ impl<D: PoolDisks> Pool<D> {
     /// Deletes a block: removes its files, the block file of a replica before its meta file. Where that fails a replica is in
     /// doubt, and any other block is as before. It takes no memory.
     pub fn delete(&mut self, id: BlockId) -> Result<(), DeleteFault>
-        requires stands { StandsForSome D.worlds D.volume_count self.old }
-        ensures step { (cells : Cells) → Stands D.worlds D.volume_count self.old false cells → Deletes D.worlds D.volume_count D.left_since id result cells self.old self.new }
+        requires stands { StandsForSome self.old }
+        ensures step { (cells : Cells) → Stands self.old false cells → Deletes id result cells self.old self.new }
         ensures others { (other : ℕ) → other ≢ id → entry_at self.new.map other ≡ entry_at self.old.map other }
-        ensures goes_on { GoesOn D.worlds D.faults D.next_number D.moment D.volume_count self.old.disks self.new.disks }
+        ensures goes_on { GoesOn D.PoolDisks self.old.disks self.new.disks }
         ensures failed { IsErrOf result DeleteFault.Failed → Rose (D.faults self.old.disks) (D.faults self.new.disks) }
     {
         let Some(entry) = self.map.find(id) else {
@@ -67,10 +67,10 @@ impl<D: PoolDisks> Pool<D> {
     fn delete_final(&mut self, id: BlockId, entry: &Entry) -> Result<(), DeleteFault>
         requires entry { entry_at self.old.map id ≡ Some entry.now }
         requires state { entry.now.state ≡ Finalised }
-        requires stands { StandsForSome D.worlds D.volume_count self.old }
-        ensures step { (cells : Cells) → Stands D.worlds D.volume_count self.old false cells → Deletes D.worlds D.volume_count D.left_since id result cells self.old self.new }
+        requires stands { StandsForSome self.old }
+        ensures step { (cells : Cells) → Stands self.old false cells → Deletes id result cells self.old self.new }
         ensures others { (other : ℕ) → other ≢ id → entry_at self.new.map other ≡ entry_at self.old.map other }
-        ensures goes_on { GoesOn D.worlds D.faults D.next_number D.moment D.volume_count self.old.disks self.new.disks }
+        ensures goes_on { GoesOn D.PoolDisks self.old.disks self.new.disks }
         ensures failed { IsErr result → Rose (D.faults self.old.disks) (D.faults self.new.disks) }
     {
         let files = [BlockFile::Block, BlockFile::Meta(entry.stamp)];
@@ -90,10 +90,10 @@ impl<D: PoolDisks> Pool<D> {
     fn delete_unsure(&mut self, id: BlockId, entry: &Entry) -> Result<(), DeleteFault>
         requires entry { entry_at self.old.map id ≡ Some entry.now }
         requires state { entry.now.state ≡ Unsure }
-        requires stands { StandsForSome D.worlds D.volume_count self.old }
-        ensures step { (cells : Cells) → Stands D.worlds D.volume_count self.old false cells → Deletes D.worlds D.volume_count D.left_since id result cells self.old self.new }
+        requires stands { StandsForSome self.old }
+        ensures step { (cells : Cells) → Stands self.old false cells → Deletes id result cells self.old self.new }
         ensures others { (other : ℕ) → other ≢ id → entry_at self.new.map other ≡ entry_at self.old.map other }
-        ensures goes_on { GoesOn D.worlds D.faults D.next_number D.moment D.volume_count self.old.disks self.new.disks }
+        ensures goes_on { GoesOn D.PoolDisks self.old.disks self.new.disks }
         ensures failed { IsErr result → Rose (D.faults self.old.disks) (D.faults self.new.disks) }
     {
         let files = [
@@ -121,10 +121,10 @@ impl<D: PoolDisks> Pool<D> {
     ) -> Result<(), DeleteFault>
         requires entry { entry_at self.old.map id ≡ Some entry.now }
         requires state { entry.now.state ≡ Waiting block meta }
-        requires stands { StandsForSome D.worlds D.volume_count self.old }
-        ensures step { (cells : Cells) → Stands D.worlds D.volume_count self.old false cells → Deletes D.worlds D.volume_count D.left_since id result cells self.old self.new }
+        requires stands { StandsForSome self.old }
+        ensures step { (cells : Cells) → Stands self.old false cells → Deletes id result cells self.old self.new }
         ensures others { (other : ℕ) → other ≢ id → entry_at self.new.map other ≡ entry_at self.old.map other }
-        ensures goes_on { GoesOn D.worlds D.faults D.next_number D.moment D.volume_count self.old.disks self.new.disks }
+        ensures goes_on { GoesOn D.PoolDisks self.old.disks self.new.disks }
         ensures failed { IsErr result → Rose (D.faults self.old.disks) (D.faults self.new.disks) }
     {
         match self.clean(id, entry, block, meta) {

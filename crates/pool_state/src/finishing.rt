@@ -19,17 +19,17 @@ use volume_layout::{block_path, meta_path, rbw_block, rbw_meta};
 impl<D: PoolDisks> Pool<D> {
     /// Finishes a fresh write: publishes its meta file, then its block. Where that fails the block is in doubt. It takes no memory.
     pub fn finish(&mut self, pair: SealedPair<D>) -> Result<(), Failed>
-        requires stands { StandsForSome D.worlds D.volume_count self.old }
+        requires stands { StandsForSome self.old }
         requires belongs { (bytes : List ℕ) × PairStands (D.worlds self.old.disks) (entry_at self.old.map) (pair_of D.Sealed.place D.Sealed.bytes pair) bytes }
-        ensures step { (cells : Cells) (bytes : List ℕ) (left : ℕ) → Stands D.worlds D.volume_count self.old false cells →
+        ensures step { (cells : Cells) (bytes : List ℕ) (left : ℕ) → Stands self.old false cells →
             PairStands (D.worlds self.old.disks) (entry_at self.old.map) (pair_of D.Sealed.place D.Sealed.bytes pair) bytes →
             cells pair.id ≡ growing pair.stamp None bytes left →
-            Takes D.worlds D.volume_count D.left_since pair.id finish (finish_reply result)
+            Takes pair.id finish (finish_reply result)
             (λ cell. (IsErr result → cell ≡ unsure None (Some (record { stamp = pair.stamp; bytes = bytes })) false)
             × (IsOk result → cell ≡ final (record { stamp = pair.stamp; bytes = bytes })))
             cells self.old self.new }
         ensures others { (other : ℕ) → other ≢ pair.id → entry_at self.new.map other ≡ entry_at self.old.map other }
-        ensures goes_on { GoesOn D.worlds D.faults D.next_number D.moment D.volume_count self.old.disks self.new.disks }
+        ensures goes_on { GoesOn D.PoolDisks self.old.disks self.new.disks }
         ensures failed { IsErr result → Rose (D.faults self.old.disks) (D.faults self.new.disks) }
     {
         let SealedPair {
@@ -67,15 +67,15 @@ impl<D: PoolDisks> Pool<D> {
     /// Drops a fresh writer, whole or not: removes its two files under `current/rbw`. Where that fails its block waits to be
     /// deleted. It takes no memory.
     pub fn drop_write(&mut self, writer: Writing<D>) -> Result<(), Failed>
-        requires stands { StandsForSome D.worlds D.volume_count self.old }
+        requires stands { StandsForSome self.old }
         requires belongs { WriterBelongs (entry_at self.old.map) (writer_of D.Draft.place D.Draft.bytes writer) }
-        ensures step { (cells : Cells) (bytes : List ℕ) (left : ℕ) → Stands D.worlds D.volume_count self.old false cells →
+        ensures step { (cells : Cells) (bytes : List ℕ) (left : ℕ) → Stands self.old false cells →
             cells writer.id ≡ growing writer.stamp None bytes left →
-            Takes D.worlds D.volume_count D.left_since writer.id drop_write (finish_reply result)
+            Takes writer.id drop_write (finish_reply result)
             (λ cell. (IsErr result → cell ≡ waiting) × (IsOk result → cell ≡ absent))
             cells self.old self.new }
         ensures others { (other : ℕ) → other ≢ writer.id → entry_at self.new.map other ≡ entry_at self.old.map other }
-        ensures goes_on { GoesOn D.worlds D.faults D.next_number D.moment D.volume_count self.old.disks self.new.disks }
+        ensures goes_on { GoesOn D.PoolDisks self.old.disks self.new.disks }
         ensures failed { IsErr result → Rose (D.faults self.old.disks) (D.faults self.new.disks) }
     {
         let Writing { id, stamp, vol, .. } = writer;
@@ -113,9 +113,9 @@ impl<D: PoolDisks> Pool<D> {
     /// and takes no memory.
     pub fn fail_write(&mut self, writer: Writing<D>)
         requires writes { IsWritten (entry_at self.old.map writer.id) }
-        ensures step { (cells : Cells) (command : Command) (stamp left : ℕ) (bytes : List ℕ) → Stands D.worlds D.volume_count self.old false cells →
+        ensures step { (cells : Cells) (command : Command) (stamp left : ℕ) (bytes : List ℕ) → Stands self.old false cells →
             cells writer.id ≡ growing stamp None bytes left → Step unlimited (growing stamp None bytes left) command failed waiting →
-            Takes D.worlds D.volume_count D.left_since writer.id command failed (λ cell. cell ≡ waiting) cells self.old self.new }
+            Takes writer.id command failed (λ cell. cell ≡ waiting) cells self.old self.new }
         ensures others { (other : ℕ) → other ≢ writer.id → entry_at self.new.map other ≡ entry_at self.old.map other }
         ensures disks { self.new.disks ≡ self.old.disks }
     {

@@ -12,7 +12,7 @@ use std::alloc::Global;
 pub fn make_pool<D: PoolDisks>(alloc: Global, disks: D) -> Pool<D>
     requires some_volume { 1 ≤ D.volume_count disks }
     requires empty { HoldNoBlock (D.worlds disks) }
-    ensures stands { (sound : Bool) → Stands D.worlds D.volume_count result sound (λ id. absent) }
+    ensures stands { (sound : Bool) → Stands result sound (λ id. absent) }
     ensures disks { result.disks ≡ disks }
 {
     Pool {

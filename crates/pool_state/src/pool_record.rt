@@ -1,4 +1,6 @@
 //! What a pool keeps.
+ghost use Rattle.std.specs.Prelude.{◌≤◌};
+
 use crate::replica_map::ReplicaMap;
 use disk_model::PoolDisks;
 
@@ -7,4 +9,5 @@ use disk_model::PoolDisks;
 pub struct Pool<D: PoolDisks> {
     pub disks: D,
     pub map: ReplicaMap,
+    pub ghost some_volume: { 1 ≤ D.volume_count disks },
 }

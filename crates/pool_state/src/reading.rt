@@ -41,7 +41,7 @@ fn lend_file<D: PoolDisks>(
     ensures images { AddsOnly (D.left_since disks.old) (D.left_since disks.new) (CanLeave (D.worlds disks.new)) }
     ensures number { IfOk result (λ lent. IfSome lent (λ reader.
         GivenBetween (D.next_number disks.old) (D.next_number disks.new) (D.Reader.number reader))) }
-    ensures goes_on { GoesOn D.worlds D.faults D.next_number D.moment D.volume_count disks.old disks.new }
+    ensures goes_on { GoesOn D.PoolDisks disks.old disks.new }
     ensures fault { IfErr result (λ fault. (fault ≡ StartFault.Failed) ⊎ (fault ≡ StartFault.Memory)) }
     ensures failed { IsErrOf result StartFault.Failed → Rose (D.faults disks.old) (D.faults disks.new) }
 {
@@ -56,13 +56,13 @@ impl<D: PoolDisks> Pool<D> {
     /// Starts to read a block's replica: lends readers of its block file and of the meta file of its stamp. The books
     /// stay as they were.
     pub fn start_read(&mut self, alloc: Global, id: BlockId) -> Result<ReadPair<D>, StartFault>
-        requires stands { StandsForSome D.worlds D.volume_count self.old }
+        requires stands { StandsForSome self.old }
         ensures map { self.new.map ≡ self.old.map }
-        ensures quiet { (cells : Cells) → Stands D.worlds D.volume_count self.old false cells →
-            Rests D.worlds D.volume_count D.left_since cells self.old self.new }
-        ensures refused { (cells : Cells) → Stands D.worlds D.volume_count self.old false cells →
+        ensures quiet { (cells : Cells) → Stands self.old false cells →
+            Rests cells self.old self.new }
+        ensures refused { (cells : Cells) → Stands self.old false cells →
             IfErr result (λ fault. Step unlimited (cells id) read (start_fault fault) (cells id)) }
-        ensures lent { (sound : Bool) (cells : Cells) → Stands D.worlds D.volume_count self.old sound cells →
+        ensures lent { (sound : Bool) (cells : Cells) → Stands self.old sound cells →
             IfOk result (λ pair. Lends sound (D.worlds self.old.disks) (cells id) pair.stamp pair.len
             (block_bytes D.Reader.bytes pair) (meta_bytes D.Reader.bytes pair)) }
         ensures files { IfSome (entry_at self.old.map id) (λ entry. IfOk result (λ pair.
@@ -72,7 +72,7 @@ impl<D: PoolDisks> Pool<D> {
             GivenBetween (D.next_number self.old.disks) (D.next_number self.new.disks) (D.Reader.number reader))) }
         ensures meta_number { IfOk result (λ pair. IfSome pair.meta (λ reader.
             GivenBetween (D.next_number self.old.disks) (D.next_number self.new.disks) (D.Reader.number reader))) }
-        ensures goes_on { GoesOn D.worlds D.faults D.next_number D.moment D.volume_count self.old.disks self.new.disks }
+        ensures goes_on { GoesOn D.PoolDisks self.old.disks self.new.disks }
         ensures failed { IsErrOf result StartFault.Failed → Rose (D.faults self.old.disks) (D.faults self.new.disks) }
     {
         let Some(entry) = self.map.find(id) else {

@@ -22,10 +22,10 @@ use volume_layout::{BlockId, Stamp, rbw_block, rbw_meta};
 impl<D: PoolDisks> Pool<D> {
     /// Why a write of a block would be refused, whatever its stamp and length; none where the block is absent.
     pub fn write_refusal(&self, id: BlockId) -> Option<StartFault>
-        ensures refused { (cells : Cells) (stamp need : ℕ) → Stands D.worlds D.volume_count self.now false cells →
+        ensures refused { (cells : Cells) (stamp need : ℕ) → Stands self.now false cells →
             IfSome result (λ fault. Step unlimited (cells id) (start_write stamp need) (start_fault fault) (cells id)) }
-        ensures absent { (cells : Cells) → Stands D.worlds D.volume_count self.now false cells → result ≡ None → cells id ≡ absent }
-        ensures memory { (cells : Cells) (stamp need : ℕ) → need < 2 ^ 64 → Stands D.worlds D.volume_count self.now false cells → result ≡ None →
+        ensures absent { (cells : Cells) → Stands self.now false cells → result ≡ None → cells id ≡ absent }
+        ensures memory { (cells : Cells) (stamp need : ℕ) → need < 2 ^ 64 → Stands self.now false cells → result ≡ None →
             Step unlimited (cells id) (start_write stamp need) memory (cells id) }
         ensures valid { IsBlockId id }
         ensures not_a_fault { IfSome result (λ fault. (fault ≢ StartFault.Failed) × (fault ≢ StartFault.Memory)) }
@@ -46,9 +46,9 @@ impl<D: PoolDisks> Pool<D> {
         stamp: Stamp,
         need: u64,
     ) -> Result<Writing<D>, StartFault>
-        requires stands { StandsForSome D.worlds D.volume_count self.old }
-        ensures step { (cells : Cells) → Stands D.worlds D.volume_count self.old false cells →
-            Takes D.worlds D.volume_count D.left_since id (start_write stamp need) (start_reply result)
+        requires stands { StandsForSome self.old }
+        ensures step { (cells : Cells) → Stands self.old false cells →
+            Takes id (start_write stamp need) (start_reply result)
             (λ cell. (result ≡ Err StartFault.Failed → cell ≡ waiting)
             × (result ≡ Err StartFault.Memory → cell ≡ waiting → D.next_number self.old.disks < D.next_number self.new.disks)
             × (IsErr result → (cell ≡ cells id) ⊎ (cell ≡ waiting))
@@ -60,7 +60,7 @@ impl<D: PoolDisks> Pool<D> {
         ensures numbers { IfOk result (λ w. GivenBetween (D.next_number self.old.disks) (D.next_number self.new.disks) (D.Draft.place w.block).number) }
         ensures meta_numbers { IfOk result (λ w. IfSome w.meta (λ meta.
             GivenBetween (D.next_number self.old.disks) (D.next_number self.new.disks) (D.Draft.place meta).number)) }
-        ensures goes_on { GoesOn D.worlds D.faults D.next_number D.moment D.volume_count self.old.disks self.new.disks }
+        ensures goes_on { GoesOn D.PoolDisks self.old.disks self.new.disks }
         ensures failed { IsErrOf result StartFault.Failed → Rose (D.faults self.old.disks) (D.faults self.new.disks) }
     {
         let _in_range = stamp.get();

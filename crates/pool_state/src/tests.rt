@@ -10,7 +10,7 @@ use volume_layout::{BlockId, Stamp};
 
 // A pool without replicas, over disks in memory.
 fn empty_pool(alloc: Global) -> Pool<PlainDisks>
-    ensures stands { StandsForSome ⟦<PlainDisks as PoolDisks>⟧.worlds ⟦<PlainDisks as PoolDisks>⟧.volume_count result }
+    ensures stands { StandsForSome result }
 {
     make_pool(alloc, PlainDisks::make(alloc, 1))
 }
@@ -23,8 +23,8 @@ fn write_block<D: PoolDisks>(
     stamp: Stamp,
     piece: &[u8],
 ) -> Result<(), StartFault>
-    requires stands { StandsForSome D.worlds D.volume_count pool.old }
-    ensures stands { StandsForSome D.worlds D.volume_count pool.new }
+    requires stands { StandsForSome pool.old }
+    ensures stands { StandsForSome pool.new }
 {
     let mut writer = pool.start_write(alloc, id, stamp, piece.len() as u64)?;
     if writer.push(piece).is_err() || !writer.is_whole() {
@@ -67,8 +67,8 @@ fn read_block<D: PoolDisks>(
     pool: &mut Pool<D>,
     id: BlockId,
 ) -> Result<Files, StartFault>
-    requires stands { StandsForSome D.worlds D.volume_count pool.old }
-    ensures stands { StandsForSome D.worlds D.volume_count pool.new }
+    requires stands { StandsForSome pool.old }
+    ensures stands { StandsForSome pool.new }
 {
     let ReadPair {
         block,
@@ -90,7 +90,7 @@ fn refused_meanwhile<D: PoolDisks>(
     id: BlockId,
     stamp: Stamp,
 ) -> Result<(Option<StartFault>, Result<(), PushFault>), StartFault>
-    requires stands { StandsForSome D.worlds D.volume_count pool.old }
+    requires stands { StandsForSome pool.old }
 {
     let mut writer = pool.start_write(alloc, id, stamp, 2)?;
     let read = pool.start_read(alloc, id).err();

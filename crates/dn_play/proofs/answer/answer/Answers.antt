@@ -9,14 +9,14 @@ use Rattle.dn_play.proofs.answer.answer.Goals as goal
 
 pub returns-in-Err-Bad-clause-err : goal.returns-in-Err-Bad-clause-err
 returns-in-Err-Bad-clause-err g c state standing =
-    unanswered_less {StandsFor = SessionStands g.D.PoolDisks.worlds g.D.PoolDisks.volume_count g.D.Draft.Draft.place g.D.Draft.Draft.bytes c.args.session.now}
+    unanswered_less {StandsFor = SessionStands c.args.session.now}
     (unanswered_outside standing (now_allowed standing.pool (g.met.D.PoolDisks.only_now c.args.session.now.pool.disks)) _ _ _ _
     (told_bad c.args.text.now c.in-Err-Bad.field-0 _ (c.in-Err-Bad.field-0-is ∙ ap Bad (sym c.in-Err-Bad.column-is)) c.in-Err-Bad.ensures.line))
     (λ s stood. leaves_safe stood.pool)
 
 pub returns-in-Err-Memory-clause-err : goal.returns-in-Err-Memory-clause-err
 returns-in-Err-Memory-clause-err g c state standing =
-    unanswered_less {StandsFor = SessionStands g.D.PoolDisks.worlds g.D.PoolDisks.volume_count g.D.Draft.Draft.place g.D.Draft.Draft.bytes c.args.session.now}
+    unanswered_less {StandsFor = SessionStands c.args.session.now}
     (unanswered_unread standing (now_allowed standing.pool (g.met.D.PoolDisks.only_now c.args.session.now.pool.disks)) _ _ _) (λ s stood. leaves_safe stood.pool)
 
 pub returns-in-Blank-clause-ok : goal.returns-in-Blank-clause-ok
@@ -24,7 +24,7 @@ returns-in-Blank-clause-ok g c state standing = answered_blank standing (now_all
 
 pub returns-then-not-is_carried_out-clause-err : goal.returns-then-not-is_carried_out-clause-err
 returns-then-not-is_carried_out-clause-err g c state standing =
-    unanswered_less {StandsFor = SessionStands g.D.PoolDisks.worlds g.D.PoolDisks.volume_count g.D.Draft.Draft.place g.D.Draft.Draft.bytes c.args.session.now}
+    unanswered_less {StandsFor = SessionStands c.args.session.now}
     (unanswered_later standing (now_allowed standing.pool (g.met.D.PoolDisks.only_now c.args.session.now.pool.disks)) _ _ _
     (c.in-Ok.line, told_ok c.args.text.now c.in-Ok.line c.in-Ok.ensures.line, not_blank c.in-Ok.line c.in_default.not-Blank, sym c.is_carried_out.ensures ∙ c.if-not-is_carried_out.true) c.requires.some_line)
     (λ s stood. leaves_safe stood.pool)
@@ -44,7 +44,7 @@ pub returns-in_default-write_reply-clause-err : goal.returns-in_default-write_re
 returns-in_default-write_reply-clause-err g c state standing =
     let on = c.in-Ok-carry_out.ensures.goes_on in
     let line = c.in-Ok-carry_out.ensures.ok state standing in
-    unanswered_less {StandsFor = SessionStands g.D.PoolDisks.worlds g.D.PoolDisks.volume_count g.D.Draft.Draft.place g.D.Draft.Draft.bytes c.carry_out.new.session}
+    unanswered_less {StandsFor = SessionStands c.carry_out.new.session}
     (unanswered_unshown (now_allowed standing.pool (g.met.D.PoolDisks.only_now c.args.session.now.pool.disks)) _ (g.K.Sink.taken c.args.sink.now) _ _ c.in-Ok.line c.in-Ok-carry_out.reply (told_ok c.args.text.now c.in-Ok.line c.in-Ok.ensures.line) (not_blank c.in-Ok.line c.in_default.not-Blank) (sym c.is_carried_out.ensures ∙ c.if-not-is_carried_out.false)
     (record { faults = on.faults; next_number = on.next_number; moment = on.moment }) line (now_allowed line.stands.pool (g.met.D.PoolDisks.only_now c.carry_out.new.session.pool.disks)))
     (λ s stood. leaves_safe stood.pool)
@@ -61,7 +61,7 @@ pub returns-clause-err : goal.returns-clause-err
 returns-clause-err g c state standing =
     let on = c.in-Ok-carry_out.ensures.goes_on in
     let line = c.in-Ok-carry_out.ensures.ok state standing in
-    unanswered_less {StandsFor = SessionStands g.D.PoolDisks.worlds g.D.PoolDisks.volume_count g.D.Draft.Draft.place g.D.Draft.Draft.bytes c.carry_out.new.session}
+    unanswered_less {StandsFor = SessionStands c.carry_out.new.session}
     (unanswered_cut (now_allowed standing.pool (g.met.D.PoolDisks.only_now c.args.session.now.pool.disks)) _ _ _ _ c.in-Ok.line c.in-Ok-carry_out.reply (told_ok c.args.text.now c.in-Ok.line c.in-Ok.ensures.line) (not_blank c.in-Ok.line c.in_default.not-Blank) (sym c.is_carried_out.ensures ∙ c.if-not-is_carried_out.false)
     (record { faults = on.faults; next_number = on.next_number; moment = on.moment }) line (now_allowed line.stands.pool (g.met.D.PoolDisks.only_now c.carry_out.new.session.pool.disks))
     (subst (AppendsFront (g.K.Sink.taken c.args.sink.now) (g.K.Sink.taken c.write_all.new.sink)) (c.deref.ensures.value ∙ c.in-Ok-write_reply.ensures) c.in-Err-write_all.ensures.err))

@@ -9,13 +9,13 @@ use Rattle.dn_play.proofs.lines.play_lines.Goals as goal
 
 pub returns-in_default-clause-played : goal.returns-in_default-clause-played
 returns-in_default-clause-played g c state standing =
-    played_less {StandsFor = SessionStands g.D.PoolDisks.worlds g.D.PoolDisks.volume_count g.D.Draft.Draft.place g.D.Draft.Draft.bytes c.args.session.now}
+    played_less {StandsFor = SessionStands c.args.session.now}
     (played_nothing standing (now_allowed standing.pool (g.met.D.PoolDisks.only_now c.args.session.now.pool.disks)) _ _) (λ s stood. leaves_safe stood.pool)
 
 pub lines-init : goal.lines-init
 lines-init g c = let none_yet = c.new-reader.ensures.count in record {
   progress = λ state standing. starts standing (now_allowed standing.pool (g.met.D.PoolDisks.only_now c.args.session.now.pool.disks)) _ _ _ _ c.new-reader.ensures.nothing c.new-reader.ensures.count;
-  went_on = went_same _ _ _ _ _ _;
+  went_on = went_same _ _;
   counted = omega arith;
   in_limit = omega arith;
   later_source = omega arith;
@@ -24,13 +24,13 @@ lines-init g c = let none_yet = c.new-reader.ensures.count in record {
 
 pub returns-in-Err-clause-played : goal.returns-in-Err-clause-played
 returns-in-Err-clause-played g c state standing =
-    subst (λ (ending : Ending). Played (faulty_of g.D.Draft.Draft.place g.D.Draft.Draft.faults g.D.Reader.Reader.number g.D.Reader.Reader.faults) (g.D.PoolDisks.worlds c.args.session.now.pool.disks) state
-    (mark_of g.D.PoolDisks.faults g.D.PoolDisks.next_number g.D.PoolDisks.moment c.args.session.now.pool.disks) (mark_of g.D.PoolDisks.faults g.D.PoolDisks.next_number g.D.PoolDisks.moment c.lines.session.pool.disks)
+    subst (λ (ending : Ending). Played (faulty_of g.D.Draft.Draft g.D.Reader.Reader) (g.D.PoolDisks.worlds c.args.session.now.pool.disks) state
+    (mark_of g.D.PoolDisks c.args.session.now.pool.disks) (mark_of g.D.PoolDisks c.lines.session.pool.disks)
     (g.S.Source.left c.args.source.now) (g.K.Sink.taken c.args.sink.now) (g.K.Sink.taken c.lines.sink) ending
     (LeavesAllowed (g.D.PoolDisks.worlds c.lines.session.pool.disks))
-    (SoundFor g.D.PoolDisks.worlds g.D.PoolDisks.volume_count g.D.Draft.Draft.place g.D.Draft.Draft.bytes c.args.session.now) AnyCells
+    (SoundFor c.args.session.now) AnyCells
     (g.D.PoolDisks.left_since c.args.session.now.pool.disks) (g.D.PoolDisks.left_since c.lines.session.pool.disks)) (sym c.ending_of.ensures)
-    (played_less {StandsFor = SessionStands g.D.PoolDisks.worlds g.D.PoolDisks.volume_count g.D.Draft.Draft.place g.D.Draft.Draft.bytes c.lines.session}
+    (played_less {StandsFor = SessionStands c.lines.session}
     (played_fault _ (g.S.Source.left c.lines.source) c.lines.reader.bytes c.lines.number c.lines.reader.count _ _ (c.lines.invariant.progress state standing) c.in-Err.fault (λ e. c.in-Err.ensures.limit (ap Err e)))
     (λ s stood. leaves_safe stood.pool))
 
@@ -51,7 +51,7 @@ returns-in-Err-clause-two_metas g c = λ e. absurd (not_later _ _ _ c.ending_of.
 
 pub returns-then-not-found-clause-played : goal.returns-then-not-found-clause-played
 returns-then-not-found-clause-played g c state standing =
-    played_less {StandsFor = SessionStands g.D.PoolDisks.worlds g.D.PoolDisks.volume_count g.D.Draft.Draft.place g.D.Draft.Draft.bytes c.lines.session}
+    played_less {StandsFor = SessionStands c.lines.session}
     (played_complete _ (g.S.Source.left c.lines.source) c.lines.reader.bytes c.lines.number c.lines.reader.count _ _ (c.lines.invariant.progress state standing)
     (g.S.Source.left c.next_line.new.source) c.next_line.new.self.bytes (c.in-Ok-next_line.ensures.ended (ap Ok c.if-not-found.true)))
     (λ s stood. leaves_safe stood.pool)
@@ -76,7 +76,7 @@ pub returns-in-Err-answer-clause-two_metas : goal.returns-in-Err-answer-clause-t
 returns-in-Err-answer-clause-two_metas g c = λ e. c.in-Err-answer.ensures.two_metas (ap Err e)
 
 pub returns-in-Err-answer-clause-goes_on : goal.returns-in-Err-answer-clause-goes_on
-returns-in-Err-answer-clause-goes_on g c = went_then _ _ _ _ _ _ _ _ c.lines.invariant.went_on c.in-Err-answer.ensures.goes_on
+returns-in-Err-answer-clause-goes_on g c = went_then _ _ _ _ c.lines.invariant.went_on c.in-Err-answer.ensures.goes_on
 
 pub returns-in-Err-answer-clause-at_end : goal.returns-in-Err-answer-clause-at_end
 returns-in-Err-answer-clause-at_end g c =
@@ -103,7 +103,7 @@ lines-preserved g c =
           goes_on_by _ (g.S.Source.left c.lines.source) c.lines.reader.bytes c.lines.number c.lines.reader.count _ _ p
           (g.D.PoolDisks.worlds c.lines.session.pool.disks) c.lines.invariant.went_on.honest.0 (g.S.Source.left c.next_line.new.source) c.next_line.new.self.bytes c.next_line.new.self.count _ c.next_line.new.line.items c.deref.result.now c.deref.ensures.value
           (c.in-Ok-next_line.ensures.line (ap Ok c.if-not-found.false)) (c.in-Ok-answer.ensures.ok _ p.stands);
-      went_on = went_then _ _ _ _ _ _ _ _ c.lines.invariant.went_on c.in-Ok-answer.ensures.goes_on;
+      went_on = went_then _ _ _ _ c.lines.invariant.went_on c.in-Ok-answer.ensures.goes_on;
       counted = (let n = c.lines.invariant.counted in omega (arith, a, n));
       in_limit = b;
       later_source = omega (arith, c.lines.invariant.later_source, c.in-Ok-next_line.ensures.later);

@@ -8,14 +8,14 @@ use Rattle.dn_play.proofs.lines.play_lines.Given as goal
 
 abbrev pub invariant-lines : goal.invariant-lines
 invariant-lines g l = record {
-  progress : (state : RunState) → SessionStands g.D.PoolDisks.worlds g.D.PoolDisks.volume_count g.D.Draft.Draft.place g.D.Draft.Draft.bytes l.fn.session state →
-      Progress (faulty_of g.D.Draft.Draft.place g.D.Draft.Draft.faults g.D.Reader.Reader.number g.D.Reader.Reader.faults) (g.D.PoolDisks.worlds l.fn.session.pool.disks) state
-      (mark_of g.D.PoolDisks.faults g.D.PoolDisks.next_number g.D.PoolDisks.moment l.fn.session.pool.disks) (mark_of g.D.PoolDisks.faults g.D.PoolDisks.next_number g.D.PoolDisks.moment l.session.pool.disks)
+  progress : (state : RunState) → SessionStands l.fn.session state →
+      Progress (faulty_of g.D.Draft.Draft g.D.Reader.Reader) (g.D.PoolDisks.worlds l.fn.session.pool.disks) state
+      (mark_of g.D.PoolDisks l.fn.session.pool.disks) (mark_of g.D.PoolDisks l.session.pool.disks)
       (g.S.Source.left l.fn.source) (g.S.Source.left l.source) l.reader.bytes l.number l.reader.count (g.K.Sink.taken l.fn.sink) (g.K.Sink.taken l.sink)
-      (SessionStands g.D.PoolDisks.worlds g.D.PoolDisks.volume_count g.D.Draft.Draft.place g.D.Draft.Draft.bytes l.session)
-      (SoundFor g.D.PoolDisks.worlds g.D.PoolDisks.volume_count g.D.Draft.Draft.place g.D.Draft.Draft.bytes l.fn.session) (SoundFor g.D.PoolDisks.worlds g.D.PoolDisks.volume_count g.D.Draft.Draft.place g.D.Draft.Draft.bytes l.session)
+      (SessionStands l.session)
+      (SoundFor l.fn.session) (SoundFor l.session)
       (g.D.PoolDisks.left_since l.fn.session.pool.disks) (g.D.PoolDisks.left_since l.session.pool.disks);
-  went_on : GoesOn g.D.PoolDisks.worlds g.D.PoolDisks.faults g.D.PoolDisks.next_number g.D.PoolDisks.moment g.D.PoolDisks.volume_count l.fn.session.pool.disks l.session.pool.disks;
+  went_on : GoesOn g.D.PoolDisks l.fn.session.pool.disks l.session.pool.disks;
   counted : l.number ≤ l.reader.count;
   in_limit : l.reader.count ≤ INPUT_LIMIT;
   later_source : g.S.Source.faults l.fn.source ≤ g.S.Source.faults l.source;

@@ -9,18 +9,18 @@ use Rattle.dn_play.proofs.pool_run.play_pool.Goals as goal
 pub returns-in-Err-Failed-clause-runs : goal.returns-in-Err-Failed-clause-runs
 returns-in-Err-Failed-clause-runs g c =
     let o = c.in-Err-Failed in
-    stops_so _ _ _ _ _ g.D.PoolDisks.left_since _ _ (g.met.D.PoolDisks.only_now c.args.disks) _ o.disks o.field-0 _ _ _ o.disks-is (ap fault_disks o.field-0-is) o.ensures.goes_on (inr (inl refl)) (appends_nothing _)
+    stops_so g.D.PoolDisks _ _ (g.met.D.PoolDisks.only_now c.args.disks) _ o.disks o.field-0 _ _ _ o.disks-is (ap fault_disks o.field-0-is) o.ensures.goes_on (inr (inl refl)) (appends_nothing _)
     (λ e. o.ensures.failed o.disks (ap Err o.field-0-is)) (λ e. absurd (cc e)) o.ensures.images
 
 pub returns-in-Err-Memory-clause-runs : goal.returns-in-Err-Memory-clause-runs
 returns-in-Err-Memory-clause-runs g c =
     let o = c.in-Err-Memory in
-    stops_so _ _ _ _ _ g.D.PoolDisks.left_since _ _ (g.met.D.PoolDisks.only_now c.args.disks) _ o.disks o.field-0 _ _ _ o.disks-is (ap fault_disks o.field-0-is) o.ensures.goes_on (inl refl) (appends_nothing _) (λ e. absurd (cc e)) (λ e. absurd (cc e)) o.ensures.images
+    stops_so g.D.PoolDisks _ _ (g.met.D.PoolDisks.only_now c.args.disks) _ o.disks o.field-0 _ _ _ o.disks-is (ap fault_disks o.field-0-is) o.ensures.goes_on (inl refl) (appends_nothing _) (λ e. absurd (cc e)) (λ e. absurd (cc e)) o.ensures.images
 
 pub returns-in-Err-Later-clause-runs : goal.returns-in-Err-Later-clause-runs
 returns-in-Err-Later-clause-runs g c =
     let o = c.in-Err-Later in
-    stops_so _ _ _ _ _ g.D.PoolDisks.left_since _ _ (g.met.D.PoolDisks.only_now c.args.disks) _ o.disks o.field-0 _ _ _ o.disks-is (ap fault_disks o.field-0-is) o.ensures.goes_on (inr (inr refl)) (appends_nothing _)
+    stops_so g.D.PoolDisks _ _ (g.met.D.PoolDisks.only_now c.args.disks) _ o.disks o.field-0 _ _ _ o.disks-is (ap fault_disks o.field-0-is) o.ensures.goes_on (inr (inr refl)) (appends_nothing _)
     (λ e. absurd (cc e)) (λ e image holds. left_start _ _ image holds (o.ensures.unchanged o.disks (ap Err o.field-0-is)) (g.met.D.PoolDisks.is_disk o.disks).some (subst (λ d. IsSome (g.D.PoolDisks.worlds c.args.disks) → IsSome (g.D.PoolDisks.worlds d)) (ap fault_disks o.field-0-is) o.ensures.goes_on.honest.0) (o.ensures.two_metas o.disks (ap Err o.field-0-is) image)) o.ensures.images
 
 pub play_lines-ending-requires : goal.play_lines-ending-requires
@@ -30,6 +30,6 @@ pub returns-clause-runs : goal.returns-clause-runs
 returns-clause-runs g c =
     let opens = c.in-Ok.ensures.opened in
     let standing = stands_first _ opens (λ id. ap (option_map (writer_of g.D.Draft.Draft.place g.D.Draft.Draft.bytes)) (c.new.ensures id)) in
-    runs_so _ _ _ _ _ g.D.PoolDisks.left_since _ _ (g.met.D.PoolDisks.only_now c.args.disks) c.in-Ok.pool.disks _ _ _ _ _ _ c.close_pool.ensures c.in-Ok.ensures.goes_on opens (g.met.D.PoolDisks.only_now c.in-Ok.pool.disks)
+    runs_so g.D.PoolDisks _ _ (g.met.D.PoolDisks.only_now c.args.disks) c.in-Ok.pool.disks _ _ _ _ _ _ c.close_pool.ensures c.in-Ok.ensures.goes_on opens (g.met.D.PoolDisks.only_now c.in-Ok.pool.disks)
     (c.play_lines-ending.ensures.played (first_of opens.cells) standing)
     c.play_lines-ending.ensures.of_lines (λ image holds. c.in-Ok.ensures.one_meta image holds refl) c.in-Ok.ensures.images c.play_lines-ending.ensures.two_metas

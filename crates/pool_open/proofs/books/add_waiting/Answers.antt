@@ -7,17 +7,17 @@ use Rattle.pool_open.proofs.books.add_waiting.Goals as goal
 
 pub returns-in_err-writing_len-clause-looks : goal.returns-in_err-writing_len-clause-looks
 returns-in_err-writing_len-clause-looks g c =
-    looks_then g.D.PoolDisks.worlds g.D.PoolDisks.faults g.D.PoolDisks.next_number g.D.PoolDisks.moment g.D.PoolDisks.volume_count g.D.PoolDisks.left_since _ _ _
+    looks_then g.D.PoolDisks _ _ _
     c.size_where.ensures.looks c.size_where-2.ensures.looks
 
 pub returns-in_err-insert-clause-looks : goal.returns-in_err-insert-clause-looks
 returns-in_err-insert-clause-looks g c =
-    looks_then g.D.PoolDisks.worlds g.D.PoolDisks.faults g.D.PoolDisks.next_number g.D.PoolDisks.moment g.D.PoolDisks.volume_count g.D.PoolDisks.left_since _ _ _
+    looks_then g.D.PoolDisks _ _ _
     c.size_where.ensures.looks c.size_where-2.ensures.looks
 
 pub returns-in_err-push_kept-clause-looks : goal.returns-in_err-push_kept-clause-looks
 returns-in_err-push_kept-clause-looks g c =
-    looks_then g.D.PoolDisks.worlds g.D.PoolDisks.faults g.D.PoolDisks.next_number g.D.PoolDisks.moment g.D.PoolDisks.volume_count g.D.PoolDisks.left_since _ _ _
+    looks_then g.D.PoolDisks _ _ _
     c.size_where.ensures.looks c.size_where-2.ensures.looks
 
 pub returns-clause-says : goal.returns-clause-says
@@ -36,5 +36,5 @@ returns-clause-says g c =
 
 pub returns-clause-looks : goal.returns-clause-looks
 returns-clause-looks g c =
-    looks_then g.D.PoolDisks.worlds g.D.PoolDisks.faults g.D.PoolDisks.next_number g.D.PoolDisks.moment g.D.PoolDisks.volume_count g.D.PoolDisks.left_since _ _ _
+    looks_then g.D.PoolDisks _ _ _
     c.size_where.ensures.looks c.size_where-2.ensures.looks

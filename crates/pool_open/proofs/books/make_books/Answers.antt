@@ -18,7 +18,7 @@ loop-id-init g c =
       passed = [];
       split = gives.0;
       says = λ id. (c.make-books.ensures.entries id, c.make-books.ensures.found id);
-      looks = looks_none g.D.PoolDisks.worlds g.D.PoolDisks.faults g.D.PoolDisks.next_number g.D.PoolDisks.moment g.D.PoolDisks.volume_count g.D.PoolDisks.left_since c.args.disks.now;
+      looks = looks_none g.D.PoolDisks c.args.disks.now;
     }
 
 pub block_id-requires : goal.block_id-requires
@@ -48,11 +48,11 @@ loop-id-preserved g c =
       split = passed_more c.args.blocks.now.entries loop.passed _ c.next.new.self one is loop.split;
       says = says_more (g.D.PoolDisks.worlds c.loop-id.disks) (g.D.PoolDisks.worlds c.add_block.new.disks) c.loop-id.books c.add_block.new.books c.args.blocks.now.entries loop.passed _ c.next.new.self
           one c.block_id.result is loop.split loop.ordered c.block_id.ensures loop.says c.add_block.ensures.looks.remains c.in_ok-add_block.ensures.others c.in_ok-add_block.ensures.says;
-      looks = looks_then g.D.PoolDisks.worlds g.D.PoolDisks.faults g.D.PoolDisks.next_number g.D.PoolDisks.moment g.D.PoolDisks.volume_count g.D.PoolDisks.left_since _ _ _
+      looks = looks_then g.D.PoolDisks _ _ _
           loop.looks c.add_block.ensures.looks;
     }
 
 pub returns-in_err-add_block-clause-looks : goal.returns-in_err-add_block-clause-looks
 returns-in_err-add_block-clause-looks g c =
-    looks_then g.D.PoolDisks.worlds g.D.PoolDisks.faults g.D.PoolDisks.next_number g.D.PoolDisks.moment g.D.PoolDisks.volume_count g.D.PoolDisks.left_since _ _ _
+    looks_then g.D.PoolDisks _ _ _
     c.loop-id.invariant.looks c.add_block.ensures.looks

@@ -16,5 +16,5 @@ invariant-loop-id g l = record {
   passed : List (ℕ × FoundFiles);
   split : passed ++ l.id-iterator ≡ l.blocks.entries;
   says : (id : ℕ) → SaysFound (g.D.PoolDisks.worlds l.disks) id (lookup (is_at (nat_cmp id)) passed) (entry_at l.books id) (found_at l.books id);
-  looks : OnlyLooks g.D.PoolDisks.worlds g.D.PoolDisks.faults g.D.PoolDisks.next_number g.D.PoolDisks.moment g.D.PoolDisks.volume_count g.D.PoolDisks.left_since l.fn.disks l.disks;
+  looks : OnlyLooks g.D.PoolDisks l.fn.disks l.disks;
 }

@@ -46,9 +46,9 @@ loop-at-preserved g c =
           c.in_ok-remove.ensures.ok c.loop-at.invariant.clear;
       images = goes_on (LeftCleared (texts c.args.paths.now) (g.D.PoolDisks.worlds c.args.disks.now)) c.loop-at.invariant.images c.remove.ensures.time
           (left_more (texts c.args.paths.now) c.as_str.result.now has (g.D.PoolDisks.worlds c.args.disks.now) (g.D.PoolDisks.worlds c.args.disks.now) (g.D.PoolDisks.worlds c.remove.new.self) comes);
-      goes_on = goes_then g.D.PoolDisks.worlds g.D.PoolDisks.faults g.D.PoolDisks.next_number g.D.PoolDisks.moment g.D.PoolDisks.volume_count g.D.PoolDisks.left_since c.args.disks.now c.loop-at.disks c.remove.new.self
+      goes_on = goes_then g.D.PoolDisks c.args.disks.now c.loop-at.disks c.remove.new.self
           c.loop-at.invariant.goes_on
-          (goes_by g.D.PoolDisks.worlds g.D.PoolDisks.faults g.D.PoolDisks.next_number g.D.PoolDisks.moment g.D.PoolDisks.volume_count g.D.PoolDisks.left_since c.loop-at.disks c.remove.new.self
+          (goes_by g.D.PoolDisks c.loop-at.disks c.remove.new.self
           c.remove.ensures.worlds.honest c.remove.ensures.cause.later c.remove.ensures.numbers c.remove.ensures.time.later c.remove.ensures.volumes);
     }
 

@@ -12,5 +12,5 @@ invariant-loop-at g l = record {
   some : InEachWorld (g.D.PoolDisks.worlds l.disks) (ComesCleared (texts l.paths) (g.D.PoolDisks.worlds l.fn.disks));
   clear : InEachWorld (g.D.PoolDisks.worlds l.disks) (λ world. (k : ℕ) → k < l.at → slot_at world 1 (get_or (texts l.paths) k []) ≡ empty);
   images : AddsOnly (g.D.PoolDisks.left_since l.fn.disks) (g.D.PoolDisks.left_since l.disks) (LeftCleared (texts l.paths) (g.D.PoolDisks.worlds l.fn.disks));
-  goes_on : GoesOn g.D.PoolDisks.worlds g.D.PoolDisks.faults g.D.PoolDisks.next_number g.D.PoolDisks.moment g.D.PoolDisks.volume_count l.fn.disks l.disks;
+  goes_on : GoesOn g.D.PoolDisks l.fn.disks l.disks;
 }

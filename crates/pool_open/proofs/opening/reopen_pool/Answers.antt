@@ -12,21 +12,21 @@ use Rattle.pool_open.proofs.opening.reopen_pool.Goals as goal
 
 pub returns-in-Err-Failed-clause-images : goal.returns-in-Err-Failed-clause-images
 returns-in-Err-Failed-clause-images g c =
-    let looks = looked g.D.PoolDisks.worlds g.D.PoolDisks.faults g.D.PoolDisks.next_number g.D.PoolDisks.moment g.D.PoolDisks.volume_count g.D.PoolDisks.left_since c.args.pool.now.disks c.survey_volume.new.disks
+    let looks = looked g.D.PoolDisks c.args.pool.now.disks c.survey_volume.new.disks
     c.survey_volume.ensures.looks c.survey_volume.ensures.honest c.survey_volume.ensures.cause.later c.survey_volume.ensures.numbers c.survey_volume.ensures.volumes c.survey_volume.ensures.time in
-    looked_images g.D.PoolDisks.worlds g.D.PoolDisks.faults g.D.PoolDisks.next_number g.D.PoolDisks.moment g.D.PoolDisks.volume_count g.D.PoolDisks.left_since c.args.pool.now.disks c.survey_volume.new.disks looks c.requires.aside
+    looked_images g.D.PoolDisks c.args.pool.now.disks c.survey_volume.new.disks looks c.requires.aside
 
 pub returns-in-Err-Memory-clause-images : goal.returns-in-Err-Memory-clause-images
 returns-in-Err-Memory-clause-images g c =
-    let looks = looked g.D.PoolDisks.worlds g.D.PoolDisks.faults g.D.PoolDisks.next_number g.D.PoolDisks.moment g.D.PoolDisks.volume_count g.D.PoolDisks.left_since c.args.pool.now.disks c.survey_volume.new.disks
+    let looks = looked g.D.PoolDisks c.args.pool.now.disks c.survey_volume.new.disks
     c.survey_volume.ensures.looks c.survey_volume.ensures.honest c.survey_volume.ensures.cause.later c.survey_volume.ensures.numbers c.survey_volume.ensures.volumes c.survey_volume.ensures.time in
-    looked_images g.D.PoolDisks.worlds g.D.PoolDisks.faults g.D.PoolDisks.next_number g.D.PoolDisks.moment g.D.PoolDisks.volume_count g.D.PoolDisks.left_since c.args.pool.now.disks c.survey_volume.new.disks looks c.requires.aside
+    looked_images g.D.PoolDisks c.args.pool.now.disks c.survey_volume.new.disks looks c.requires.aside
 
 pub returns-in-Some-clause-images : goal.returns-in-Some-clause-images
 returns-in-Some-clause-images g c =
-    let looks = looked g.D.PoolDisks.worlds g.D.PoolDisks.faults g.D.PoolDisks.next_number g.D.PoolDisks.moment g.D.PoolDisks.volume_count g.D.PoolDisks.left_since c.args.pool.now.disks c.survey_volume.new.disks
+    let looks = looked g.D.PoolDisks c.args.pool.now.disks c.survey_volume.new.disks
     c.survey_volume.ensures.looks c.survey_volume.ensures.honest c.survey_volume.ensures.cause.later c.survey_volume.ensures.numbers c.survey_volume.ensures.volumes c.survey_volume.ensures.time in
-    looked_images g.D.PoolDisks.worlds g.D.PoolDisks.faults g.D.PoolDisks.next_number g.D.PoolDisks.moment g.D.PoolDisks.volume_count g.D.PoolDisks.left_since c.args.pool.now.disks c.survey_volume.new.disks looks c.requires.aside
+    looked_images g.D.PoolDisks c.args.pool.now.disks c.survey_volume.new.disks looks c.requires.aside
 
 pub returns-in-Some-clause-two_metas : goal.returns-in-Some-clause-two_metas
 returns-in-Some-clause-two_metas g c is image leaves =
@@ -35,24 +35,24 @@ returns-in-Some-clause-two_metas g c is image leaves =
 
 pub returns-in-Err-Failed-make_books-clause-images : goal.returns-in-Err-Failed-make_books-clause-images
 returns-in-Err-Failed-make_books-clause-images g c =
-    let looks = looked g.D.PoolDisks.worlds g.D.PoolDisks.faults g.D.PoolDisks.next_number g.D.PoolDisks.moment g.D.PoolDisks.volume_count g.D.PoolDisks.left_since c.args.pool.now.disks c.survey_volume.new.disks
+    let looks = looked g.D.PoolDisks c.args.pool.now.disks c.survey_volume.new.disks
     c.survey_volume.ensures.looks c.survey_volume.ensures.honest c.survey_volume.ensures.cause.later c.survey_volume.ensures.numbers c.survey_volume.ensures.volumes c.survey_volume.ensures.time in
-    let both = looks_then g.D.PoolDisks.worlds g.D.PoolDisks.faults g.D.PoolDisks.next_number g.D.PoolDisks.moment g.D.PoolDisks.volume_count g.D.PoolDisks.left_since c.args.pool.now.disks c.survey_volume.new.disks c.make_books.new.disks looks c.make_books.ensures.looks in
-    looked_images g.D.PoolDisks.worlds g.D.PoolDisks.faults g.D.PoolDisks.next_number g.D.PoolDisks.moment g.D.PoolDisks.volume_count g.D.PoolDisks.left_since c.args.pool.now.disks c.make_books.new.disks both c.requires.aside
+    let both = looks_then g.D.PoolDisks c.args.pool.now.disks c.survey_volume.new.disks c.make_books.new.disks looks c.make_books.ensures.looks in
+    looked_images g.D.PoolDisks c.args.pool.now.disks c.make_books.new.disks both c.requires.aside
 
 pub returns-in-Err-Memory-make_books-clause-images : goal.returns-in-Err-Memory-make_books-clause-images
 returns-in-Err-Memory-make_books-clause-images g c =
-    let looks = looked g.D.PoolDisks.worlds g.D.PoolDisks.faults g.D.PoolDisks.next_number g.D.PoolDisks.moment g.D.PoolDisks.volume_count g.D.PoolDisks.left_since c.args.pool.now.disks c.survey_volume.new.disks
+    let looks = looked g.D.PoolDisks c.args.pool.now.disks c.survey_volume.new.disks
     c.survey_volume.ensures.looks c.survey_volume.ensures.honest c.survey_volume.ensures.cause.later c.survey_volume.ensures.numbers c.survey_volume.ensures.volumes c.survey_volume.ensures.time in
-    let both = looks_then g.D.PoolDisks.worlds g.D.PoolDisks.faults g.D.PoolDisks.next_number g.D.PoolDisks.moment g.D.PoolDisks.volume_count g.D.PoolDisks.left_since c.args.pool.now.disks c.survey_volume.new.disks c.make_books.new.disks looks c.make_books.ensures.looks in
-    looked_images g.D.PoolDisks.worlds g.D.PoolDisks.faults g.D.PoolDisks.next_number g.D.PoolDisks.moment g.D.PoolDisks.volume_count g.D.PoolDisks.left_since c.args.pool.now.disks c.make_books.new.disks both c.requires.aside
+    let both = looks_then g.D.PoolDisks c.args.pool.now.disks c.survey_volume.new.disks c.make_books.new.disks looks c.make_books.ensures.looks in
+    looked_images g.D.PoolDisks c.args.pool.now.disks c.make_books.new.disks both c.requires.aside
 
 pub returns-in-Err-clause-images : goal.returns-in-Err-clause-images
 returns-in-Err-clause-images g c =
-    let looks = looked g.D.PoolDisks.worlds g.D.PoolDisks.faults g.D.PoolDisks.next_number g.D.PoolDisks.moment g.D.PoolDisks.volume_count g.D.PoolDisks.left_since c.args.pool.now.disks c.survey_volume.new.disks
+    let looks = looked g.D.PoolDisks c.args.pool.now.disks c.survey_volume.new.disks
     c.survey_volume.ensures.looks c.survey_volume.ensures.honest c.survey_volume.ensures.cause.later c.survey_volume.ensures.numbers c.survey_volume.ensures.volumes c.survey_volume.ensures.time in
-    let both = looks_then g.D.PoolDisks.worlds g.D.PoolDisks.faults g.D.PoolDisks.next_number g.D.PoolDisks.moment g.D.PoolDisks.volume_count g.D.PoolDisks.left_since c.args.pool.now.disks c.survey_volume.new.disks c.make_books.new.disks looks c.make_books.ensures.looks in
-    looked_images g.D.PoolDisks.worlds g.D.PoolDisks.faults g.D.PoolDisks.next_number g.D.PoolDisks.moment g.D.PoolDisks.volume_count g.D.PoolDisks.left_since c.args.pool.now.disks c.make_books.new.disks both c.requires.aside
+    let both = looks_then g.D.PoolDisks c.args.pool.now.disks c.survey_volume.new.disks c.make_books.new.disks looks c.make_books.ensures.looks in
+    looked_images g.D.PoolDisks c.args.pool.now.disks c.make_books.new.disks both c.requires.aside
 
 pub returns-in-Ok-clear_paths-clause-opened : goal.returns-in-Ok-clear_paths-clause-opened
 returns-in-Ok-clear_paths-clause-opened g c =

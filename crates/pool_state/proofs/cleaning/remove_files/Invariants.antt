@@ -7,5 +7,5 @@ use Rattle.pool_state.proofs.cleaning.remove_files.Given as goal
 abbrev pub invariant-loop-at : goal.invariant-loop-at
 invariant-loop-at g l = record {
   so_far : RemovedSoFar l.id l.vol (map file_is l.files) l.at (g.D.PoolDisks.worlds l.fn.disks) (g.D.PoolDisks.worlds l.disks) (g.D.PoolDisks.left_since l.fn.disks) (g.D.PoolDisks.left_since l.disks);
-  goes_on : GoesOn g.D.PoolDisks.worlds g.D.PoolDisks.faults g.D.PoolDisks.next_number g.D.PoolDisks.moment g.D.PoolDisks.volume_count l.fn.disks l.disks;
+  goes_on : GoesOn g.D.PoolDisks l.fn.disks l.disks;
 }

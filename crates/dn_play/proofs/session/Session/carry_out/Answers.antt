@@ -11,9 +11,9 @@ returns-in-Open-clause-step g c state standing = let t = c.open.ensures.step sta
 pub returns-in-Push-clause-step : goal.returns-in-Push-clause-step
 returns-in-Push-clause-step g c state standing =
     let t = c.push.ensures.step state standing in
-    carried c.in-Push.is t.new t.stands (λ trust known. subst (λ piece. CommandStep trust (faulty_of g.D.Draft.Draft.place g.D.Draft.Draft.faults g.D.Reader.Reader.number g.D.Reader.Reader.faults) state
-    (mark_of g.D.PoolDisks.faults g.D.PoolDisks.next_number g.D.PoolDisks.moment c.args.self.now.pool.disks) c.in-Push.id (push piece) c.push.result t.new
-    (mark_of g.D.PoolDisks.faults g.D.PoolDisks.next_number g.D.PoolDisks.moment c.push.new.self.pool.disks)) c.as_slice.ensures (t.step trust known)) t.crash
+    carried c.in-Push.is t.new t.stands (λ trust known. subst (λ piece. CommandStep trust (faulty_of g.D.Draft.Draft g.D.Reader.Reader) state
+    (mark_of g.D.PoolDisks c.args.self.now.pool.disks) c.in-Push.id (push piece) c.push.result t.new
+    (mark_of g.D.PoolDisks c.push.new.self.pool.disks)) c.as_slice.ensures (t.step trust known)) t.crash
 
 pub returns-in-Finish-clause-step : goal.returns-in-Finish-clause-step
 returns-in-Finish-clause-step g c state standing = let t = c.finish.ensures.step state standing in carried c.in-Finish.is t.new t.stands t.step t.crash
@@ -24,9 +24,9 @@ returns-in-Read-clause-step g c state standing = let t = c.read.ensures.step sta
 pub returns-in-Write-clause-step : goal.returns-in-Write-clause-step
 returns-in-Write-clause-step g c state standing =
     let t = c.write.ensures.step state standing in
-    carried c.in-Write.is t.new t.stands (λ trust known. subst (λ piece. CommandStep trust (faulty_of g.D.Draft.Draft.place g.D.Draft.Draft.faults g.D.Reader.Reader.number g.D.Reader.Reader.faults) state
-    (mark_of g.D.PoolDisks.faults g.D.PoolDisks.next_number g.D.PoolDisks.moment c.args.self.now.pool.disks) c.in-Write.id (write c.in-Write.stamp piece) c.write.result t.new
-    (mark_of g.D.PoolDisks.faults g.D.PoolDisks.next_number g.D.PoolDisks.moment c.write.new.self.pool.disks)) c.as_slice-in-Write.ensures (t.step trust known)) t.crash
+    carried c.in-Write.is t.new t.stands (λ trust known. subst (λ piece. CommandStep trust (faulty_of g.D.Draft.Draft g.D.Reader.Reader) state
+    (mark_of g.D.PoolDisks c.args.self.now.pool.disks) c.in-Write.id (write c.in-Write.stamp piece) c.write.result t.new
+    (mark_of g.D.PoolDisks c.write.new.self.pool.disks)) c.as_slice-in-Write.ensures (t.step trust known)) t.crash
 
 pub returns-in-Delete-clause-step : goal.returns-in-Delete-clause-step
 returns-in-Delete-clause-step g c state standing = let t = c.delete.ensures.step state standing in carried c.in-Delete.is t.new t.stands t.step t.crash

@@ -85,7 +85,7 @@ returns-in-Err-finish-clause-step g c state standing =
     (subst (λ o. MatchOption o (NotGrowing t.to.cell) (OpenWriter (g.D.PoolDisks.worlds c.finish.new.self.disks) (entry_at c.finish.new.self.map) id t.to.cell (state.writers id))) (sym seen.1)
     (subst NotGrowing (sym (t.to.says.0 refl)) tt)))
     (crash_takes t) failed (λ trust known. refl) t.to.step
-    (λ e. subst (FailsBy (faulty_of g.D.Draft.Draft.place g.D.Draft.Draft.faults g.D.Reader.Reader.number g.D.Reader.Reader.faults) (mark_of g.D.PoolDisks.faults g.D.PoolDisks.next_number g.D.PoolDisks.moment c.args.self.now.pool.disks) (mark_of g.D.PoolDisks.faults g.D.PoolDisks.next_number g.D.PoolDisks.moment c.finish.new.self.disks) (state.writers id) (state.cells id) finish) (sym (t.to.says.0 refl)) (c.in-Err-finish.ensures.failed refl)) (λ e x. absurd cc) refl
+    (λ e. subst (FailsBy (faulty_of g.D.Draft.Draft g.D.Reader.Reader) (mark_of g.D.PoolDisks c.args.self.now.pool.disks) (mark_of g.D.PoolDisks c.finish.new.self.disks) (state.writers id) (state.cells id) finish) (sym (t.to.says.0 refl)) (c.in-Err-finish.ensures.failed refl)) (λ e x. absurd cc) refl
 
 pub returns-in-Err-Memory-default-clause-step : goal.returns-in-Err-Memory-default-clause-step
 returns-in-Err-Memory-default-clause-step g c state standing =
@@ -123,6 +123,6 @@ returns-in-Err-Failed-default-clause-step g c state standing =
     (subst (λ o. MatchOption o (NotGrowing t.to.cell) (OpenWriter (g.D.PoolDisks.worlds c.fail_write.new.self.disks) (entry_at c.fail_write.new.self.map) id t.to.cell (state.writers id))) (sym seen.1)
     (subst NotGrowing (sym t.to.says) tt)))
     (crash_takes t) failed (λ trust known. refl) t.to.step
-    (λ same. subst (FailsBy (faulty_of g.D.Draft.Draft.place g.D.Draft.Draft.faults g.D.Reader.Reader.number g.D.Reader.Reader.faults) (mark_of g.D.PoolDisks.faults g.D.PoolDisks.next_number g.D.PoolDisks.moment c.args.self.now.pool.disks) (mark_of g.D.PoolDisks.faults g.D.PoolDisks.next_number g.D.PoolDisks.moment c.fail_write.new.self.disks) (state.writers id) (state.cells id) finish) (sym t.to.says)
+    (λ same. subst (FailsBy (faulty_of g.D.Draft.Draft g.D.Reader.Reader) (mark_of g.D.PoolDisks c.args.self.now.pool.disks) (mark_of g.D.PoolDisks c.fail_write.new.self.disks) (state.writers id) (state.cells id) finish) (sym t.to.says)
     (inl (faulty_writer g.D.Draft.Draft.place g.D.Draft.Draft.faults (f w) (state.writers id) _ _ _ _ _ _ at.stands.block at.stands.meta at.block_given at.meta_given (e.ensures.failed e.field-0-0-is).1)))
     (λ bad x. absurd cc) refl

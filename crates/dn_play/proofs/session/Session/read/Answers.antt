@@ -24,7 +24,7 @@ returns-in-Ok-read_all-clause-step g c state standing =
     carried_same (stays_on standing ((c.start_read.ensures.quiet state.cells standing.pool).stands _ standing.pool) c.start_read.ensures.goes_on.honest.1 (λ id. ap (λ m. entry_at m id) c.start_read.ensures.map) (λ id. refl))
     (crash_rests (c.start_read.ensures.quiet state.cells standing.pool))
     (content lent.replica)
-    (λ trust known. gives_data lent (SoundFor g.D.PoolDisks.worlds g.D.PoolDisks.volume_count g.D.Draft.Draft.place g.D.Draft.Draft.bytes c.args.self.now state.cells)
+    (λ trust known. gives_data lent (SoundFor c.args.self.now state.cells)
     _ _ c.get-stamp.ensures.value (ap length c.new.ensures ∙ all_read.len)
     (λ all is. c.new.ensures ∙ all_read.bytes all is) (λ sums block_is meta_is few. all_read.verified _ sums (record { block_is = block_is; meta_is = meta_is; few = few })) trust known)
     (reads_content (state.cells c.args.id) lent.replica lent.cell_is) (λ e. absurd cc) (λ e w. absurd cc) refl
@@ -52,7 +52,7 @@ returns-in-Err-Bad-clause-step g c state standing =
     carried_same (stays_on standing ((c.start_read.ensures.quiet state.cells standing.pool).stands _ standing.pool) c.start_read.ensures.goes_on.honest.1 (λ id. ap (λ m. entry_at m id) c.start_read.ensures.map) (λ id. refl))
     (crash_rests (c.start_read.ensures.quiet state.cells standing.pool))
     (content lent.replica)
-    (λ trust known. gives_verdict lent (SoundFor g.D.PoolDisks.worlds g.D.PoolDisks.volume_count g.D.Draft.Draft.place g.D.Draft.Draft.bytes c.args.self.now state.cells)
+    (λ trust known. gives_verdict lent (SoundFor c.args.self.now state.cells)
     e.verdict _ (λ s bytes. c.verdict_reply_of.ensures s bytes) (e.ensures.on_length e.verdict is)
     (λ sums block_is meta_is few. e.ensures.bad _ sums (record { block_is = block_is; meta_is = meta_is; few = few }) e.verdict is)
     (λ told sound.

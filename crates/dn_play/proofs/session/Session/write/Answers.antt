@@ -38,7 +38,7 @@ returns-in-Err-clause-step g c state standing =
     (subst (λ o. MatchOption o (NotGrowing t.to.cell) (OpenWriter (g.D.PoolDisks.worlds c.write_start.new.pool.disks) (entry_at c.write_start.new.pool.map) c.args.id t.to.cell (state.writers c.args.id))) (sym none) rests))
     (crash_takes t) (start_fault fault) (λ trust known. says_fault trust fault _ c.refusal_of-in-Err.ensures)
     (write_unstarted (state.cells c.args.id) c.args.stamp c.args.piece.now fault t.to.cell is_absent (omega arith) (t.to.says.2 refl) t.to.step)
-    (λ e. subst (FailsBy (faulty_of g.D.Draft.Draft.place g.D.Draft.Draft.faults g.D.Reader.Reader.number g.D.Reader.Reader.faults) (mark_of g.D.PoolDisks.faults g.D.PoolDisks.next_number g.D.PoolDisks.moment c.args.self.now.pool.disks) (mark_of g.D.PoolDisks.faults g.D.PoolDisks.next_number g.D.PoolDisks.moment c.write_start.new.pool.disks) (state.writers c.args.id) (state.cells c.args.id) (write c.args.stamp c.args.piece.now))
+    (λ e. subst (FailsBy (faulty_of g.D.Draft.Draft g.D.Reader.Reader) (mark_of g.D.PoolDisks c.args.self.now.pool.disks) (mark_of g.D.PoolDisks c.write_start.new.pool.disks) (state.writers c.args.id) (state.cells c.args.id) (write c.args.stamp c.args.piece.now))
     (sym (t.to.says.0 (ap Err (is_failed fault e)))) (inl (c.in-Err.ensures.failed (ap Err (is_failed fault e))), refl))
     (λ e w. t.to.says.1 (ap Err (is_memory fault e)) w) refl
 
@@ -89,8 +89,8 @@ returns-clause-step g c state standing =
     (subst (λ o. MatchOption o (NotGrowing e.to.cell) (OpenWriter (g.D.PoolDisks.worlds c.op_end.new.pool.disks) (entry_at c.op_end.new.pool.map) id e.to.cell (state.writers id))) (sym none) (end_rests fault reply stamp piece e.to.cell leaves)))
     (ended_safe two e stamp (length piece - length piece) piece is_absent p.says) (op_answer reply) (λ trust known. says_end trust reply _ c.end_reply_of.ensures)
     (subst (λ cell. Step unlimited cell (write stamp piece) (op_answer reply) e.to.cell) (sym is_absent) (ends_as_write fault reply stamp piece e.to.cell (omega arith) leaves))
-    (λ same. fails_write (faulty_of g.D.Draft.Draft.place g.D.Draft.Draft.faults g.D.Reader.Reader.number g.D.Reader.Reader.faults)
-    (mark_of g.D.PoolDisks.faults g.D.PoolDisks.next_number g.D.PoolDisks.moment c.args.self.now.pool.disks) (mark_of g.D.PoolDisks.faults g.D.PoolDisks.next_number g.D.PoolDisks.moment c.op_end.new.pool.disks)
+    (λ same. fails_write (faulty_of g.D.Draft.Draft g.D.Reader.Reader)
+    (mark_of g.D.PoolDisks c.args.self.now.pool.disks) (mark_of g.D.PoolDisks c.op_end.new.pool.disks)
     (state.writers id) (state.cells id) fault reply stamp piece e.to.cell (ends_failed reply same) leaves
     (λ whole. rose_from _ (g.D.PoolDisks.faults c.write_start.new.pool.disks) _ c.write_start.ensures.goes_on.faults (c.op_end.ensures.failed (ends_failed reply same) whole))
     (λ stopped. inl (faulty_writer g.D.Draft.Draft.place g.D.Draft.Draft.faults (f w) numbers belongs.block_number belongs.meta_number _ _ _ _ belongs.block belongs.meta

@@ -7,10 +7,10 @@ use Rattle.pool_state.proofs.pool_record.Pool.clean_found.Given as goal
 
 abbrev pub invariant-loop : goal.invariant-loop
 invariant-loop g l = record {
-  stands : StandsForSome g.D.PoolDisks.worlds g.D.PoolDisks.volume_count l.self;
-  quiet : (cells : Cells) → Stands g.D.PoolDisks.worlds g.D.PoolDisks.volume_count l.fn.self false cells →
-      Rests g.D.PoolDisks.worlds g.D.PoolDisks.volume_count g.D.PoolDisks.left_since cells l.fn.self l.self;
+  stands : StandsForSome l.self;
+  quiet : (cells : Cells) → Stands l.fn.self false cells →
+      Rests cells l.fn.self l.self;
   fewer : length l.self.map.found.items + l.counter ≤ l.end;
   entries : (other : ℕ) → entry_at l.self.map other ≡ entry_at l.fn.self.map other;
-  goes_on : GoesOn g.D.PoolDisks.worlds g.D.PoolDisks.faults g.D.PoolDisks.next_number g.D.PoolDisks.moment g.D.PoolDisks.volume_count l.fn.self.disks l.self.disks;
+  goes_on : GoesOn g.D.PoolDisks l.fn.self.disks l.self.disks;
 }
