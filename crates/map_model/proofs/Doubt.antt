@@ -16,9 +16,9 @@ use Rattle.map_model.proofs.Owned.{each_listed, IsOwn}
 use Rattle.map_model.proofs.Waiting.{unwanted_ticket}
 
 -- a copy that stands matches its meta
-abbrev pub CopiesMatch : (List ℕ → List ℕ → Type 0) → View → Type 0
+abbrev pub CopiesMatch : (List ℕ → Replica → Type 0) → View → Type 0
 CopiesMatch M view = (vol : ℕ) (replica : Replica) (content : List ℕ) → IsCopy (files_in view) (own_spot vol) replica →
-    view vol (meta replica.stamp) ≡ holds content → M content replica.bytes
+    view vol (meta replica.stamp) ≡ holds content → M content replica
 
 abbrev pub NoBlock : View → Type 0
 NoBlock view = (vol : ℕ) → IsTrue (is_standing (view vol block)) → ⊥
@@ -26,16 +26,16 @@ NoBlock view = (vol : ℕ) → IsTrue (is_standing (view vol block)) → ⊥
 pub nothing_read : (view : View) → NoBlock view → ReadsAs (files_in view) None
 nothing_read view none = reads_nothing (files_in view) (no_pair_files view (λ vol stamp b m. none vol b))
 
-pub nothing_copied : (M : List ℕ → List ℕ → Type 0) (view : View) → NoBlock view → CopiesMatch M view
+pub nothing_copied : (M : List ℕ → Replica → Type 0) (view : View) → NoBlock view → CopiesMatch M view
 nothing_copied M view none vol replica content copy is =
     absurd (none vol (bytes-standing (view vol block) (ap is_some copy.block)))
 
 -- the block file stands on one volume only, with a copy there
-pub record OneCopy (M : List ℕ → List ℕ → Type 0) (view : View) (vol : ℕ) (replica : Replica) : Type 0 where
+pub record OneCopy (M : List ℕ → Replica → Type 0) (view : View) (vol : ℕ) (replica : Replica) : Type 0 where
   pub copy : IsCopy (files_in view) (own_spot vol) replica
   pub content : List ℕ
   pub meta_file : view vol (meta replica.stamp) ≡ holds content
-  pub matches : M content replica.bytes
+  pub matches : M content replica
   pub elsewhere : (v : ℕ) → v ≢ vol → IsTrue (is_standing (view v block)) → ⊥
 
 none_in : (slot : Slot) → (IsTrue (is_standing slot) → ⊥) → bytes_in slot ≡ None
@@ -43,12 +43,12 @@ none_in empty gone = refl
 none_in (holds bytes) gone = absurd (gone refl)
 none_in (drafted number) gone = refl
 
-pub one_read : (M : List ℕ → List ℕ → Type 0) (view : View) (vol : ℕ) (replica : Replica) → OneCopy M view vol replica → ReadsAs (files_in view) (Some replica)
+pub one_read : (M : List ℕ → Replica → Type 0) (view : View) (vol : ℕ) (replica : Replica) → OneCopy M view vol replica → ReadsAs (files_in view) (Some replica)
 one_read M view vol replica one =
     reads_only_copy (files_in view) (own_spot vol) replica one.copy
     (λ other away. none_in (view other.vol block) (one.elsewhere other.vol (λ e. away (ap own_spot e))))
 
-pub one_copied : (M : List ℕ → List ℕ → Type 0) (view : View) (vol : ℕ) (replica : Replica) → OneCopy M view vol replica → CopiesMatch M view
+pub one_copied : (M : List ℕ → Replica → Type 0) (view : View) (vol : ℕ) (replica : Replica) → OneCopy M view vol replica → CopiesMatch M view
 one_copied M view vol replica one v other content copy is =
     elim (cases_eq v vol) [
       | inl here ↦
@@ -58,8 +58,8 @@ one_copied M view vol replica one v other content copy is =
           let R : Replica → Type 0 = λ r. view vol (meta r.stamp) ≡ holds content in
           let found : view vol (meta replica.stamp) ≡ holds content = subst R it (subst Q here is) in
           let same : Some one.content ≡ Some content = ap bytes_in (sym one.meta_file ∙ found) in
-          let S : List ℕ → Type 0 = λ c. M c replica.bytes in
-          let T : Replica → Type 0 = λ r. M content r.bytes in
+          let S : List ℕ → Type 0 = λ c. M c replica in
+          let T : Replica → Type 0 = λ r. M content r in
           subst T (sym it) (subst S (same_Some one.content content same) one.matches)
       | inr away ↦ absurd (one.elsewhere v away (bytes-standing (view v block) (ap is_some copy.block)))
     ]
@@ -141,12 +141,12 @@ doubt_own base stamp temporary_block names = names
 doubt_own base stamp (temporary_meta s) names = names
 
 -- a writer's block of which only files changed that an unsure entry names
-pub record Doubts (M : List ℕ → List ℕ → Type 0) (before after : View) (writer : Writer) (base : Option Base) (x y : Option Replica) (cut : Bool) : Type 0 where
+pub record Doubts (M : List ℕ → Replica → Type 0) (before after : View) (writer : Writer) (base : Option Base) (x y : Option Replica) (cut : Bool) : Type 0 where
   pub slots : (v : ℕ) (f : File) → (after v f ≡ before v f) ⊎ ((writer.vol ≡ v) × StateNames (in_doubt base) writer.stamp f)
   pub settled : (v : ℕ) (f : File) (number : ℕ) → IsFinalised f → after v f ≡ drafted number → ⊥
   pub content : ReadsAsEither M after x y cut
 
-pub doubts_stands : (M : List ℕ → List ℕ → Type 0) (before after : View) (leftovers : List Leftover) (ticket : Option Ticket) (writer : Writer)
+pub doubts_stands : (M : List ℕ → Replica → Type 0) (before after : View) (leftovers : List Leftover) (ticket : Option Ticket) (writer : Writer)
     (base : Option Base) (x y : Option Replica) (cut : Bool) (cell : Cell) → Doubts M before after writer base x y cut →
     BlockStands M before (books_of (Some (writer_entry writer (is_written base writer.block_number writer.meta_number))) leftovers ticket) cell →
     BlockStands M after (books_of (Some (writer_entry writer (in_doubt base))) leftovers ticket) (unsure x y cut)

@@ -6,6 +6,7 @@ pub mod Readings
 pub mod SlotLemmas
 pub mod Owned
 pub mod KeyLaw
+pub mod Knowing
 pub mod Shrinks
 pub mod Removing
 pub mod Waiting

@@ -44,29 +44,29 @@ same_holds : (a b : List ℕ) → holds a ≡ holds b → a ≡ b
 same_holds a b same = same_Some a b (ap bytes_in same)
 
 -- a copy of a pair that stands alone, but for equal ones: its meta holds the same as the pair's
-alike : (M : List ℕ → List ℕ → Type 0) (view : View) (vol v : ℕ) (replica other : Replica) (content : List ℕ) →
-    OnlyPair view vol replica → view vol (meta replica.stamp) ≡ holds content → M content replica.bytes → CopyAt view v other →
+alike : (M : List ℕ → Replica → Type 0) (view : View) (vol v : ℕ) (replica other : Replica) (content : List ℕ) →
+    OnlyPair view vol replica → view vol (meta replica.stamp) ≡ holds content → M content replica → CopyAt view v other →
     (v ≢ vol → view v (meta other.stamp) ≡ view vol (meta other.stamp)) →
-    IsSomeAnd (bytes_in (view v (meta other.stamp))) (λ found. M found other.bytes)
+    IsSomeAnd (bytes_in (view v (meta other.stamp))) (λ found. M found other)
 alike M view vol v replica other content pair meta_file matches copy equal =
     let stamps : other.stamp ≡ replica.stamp = pair.only_meta v other.stamp copy.meta_there in
     let here : view vol (meta other.stamp) ≡ holds content = subst (λ s. view vol (meta s) ≡ holds content) (sym stamps) meta_file in
-    in_slot (view v (meta other.stamp)) (λ found. M found other.bytes) copy.has_meta (λ found is.
+    in_slot (view v (meta other.stamp)) (λ found. M found other) copy.has_meta (λ found is.
     elim (cases_eq v vol) [
       | inl same ↦
           let at : view v (meta other.stamp) ≡ view vol (meta other.stamp) = ap (λ n. view n (meta other.stamp)) same in
           let contents : found ≡ content = same_holds found content (sym is ∙ at ∙ here) in
           let bytes : other.bytes ≡ replica.bytes = same_Some other.bytes replica.bytes (sym copy.block_is ∙ ap (λ n. bytes_in (view n block)) same ∙ ap bytes_in pair.block_file) in
-          subst (λ b. M found b) (sym bytes) (subst (λ c. M c replica.bytes) (sym contents) matches)
+          subst (λ b. M found (record { stamp = other.stamp; bytes = b })) (sym bytes) (subst (λ s. M found (record { stamp = s; bytes = replica.bytes })) (sym stamps) (subst (λ c. M c replica) (sym contents) matches))
       | inr apart ↦
           let contents : found ≡ content = same_holds found content (sym is ∙ equal apart ∙ here) in
           let bytes : other.bytes ≡ replica.bytes = same_Some other.bytes replica.bytes (sym copy.block_is ∙ ap bytes_in (pair.other_block v apart copy.block_there)) in
-          subst (λ b. M found b) (sym bytes) (subst (λ c. M c replica.bytes) (sym contents) matches)
+          subst (λ b. M found (record { stamp = other.stamp; bytes = b })) (sym bytes) (subst (λ s. M found (record { stamp = s; bytes = replica.bytes })) (sym stamps) (subst (λ c. M c replica) (sym contents) matches))
     ])
 
-copies_match : (M : List ℕ → List ℕ → Type 0) (view : View) (entry : Option Entry) (leftovers : List Leftover) (ticket : Option Ticket) (cell : Cell) →
+copies_match : (M : List ℕ → Replica → Type 0) (view : View) (entry : Option Entry) (leftovers : List Leftover) (ticket : Option Ticket) (cell : Cell) →
     BlockStands M view (books_of entry leftovers ticket) cell → (spot : Spot) (replica : Replica) → IsCopy (files_in view) spot replica →
-    IsSomeAnd ((files_in view).meta spot replica.stamp) (λ found. M found replica.bytes)
+    IsSomeAnd ((files_in view).meta spot replica.stamp) (λ found. M found replica)
 copies_match M view None leftovers ticket absent stands spot replica copy =
     let at : CopyAt view spot.vol replica = copy_at view spot replica copy in
     absurd (own_file M view (books_of None leftovers ticket) absent stands spot.vol block tt at.block_there)
@@ -99,20 +99,20 @@ copies_match M view (Some e) leftovers ticket (growing stamp (Some base) bytes l
     ])
 copies_match M view (Some e) leftovers ticket (unsure x y cut) stands spot replica copy =
     let at : CopyAt view spot.vol replica = copy_at view spot replica copy in
-    in_slot (view spot.vol (meta replica.stamp)) (λ found. M found replica.bytes) at.has_meta
+    in_slot (view spot.vol (meta replica.stamp)) (λ found. M found replica) at.has_meta
     (λ found is. stands.content.sound spot.vol replica found copy is)
 copies_match M view (Some e) leftovers ticket waiting stands spot replica copy =
     let at : CopyAt view spot.vol replica = copy_at view spot replica copy in
     absurd (stands.content spot.vol replica.stamp at.block_there at.meta_there)
 
-pub block_is_sound : (M : List ℕ → List ℕ → Type 0) → BlockIsSound M
+pub block_is_sound : (M : List ℕ → Replica → Type 0) → BlockIsSound M
 block_is_sound M view books cell stands spot replica greatest =
     copies_match M view books.entry books.leftovers books.ticket cell stands spot replica greatest.copy
 
-pub stands_is_sound : (M : List ℕ → List ℕ → Type 0) → StandsIsSound M
+pub stands_is_sound : (M : ℕ → List ℕ → Replica → Type 0) → StandsIsSound M
 stands_is_sound M told books cells image stands leaves id valid =
     let world : World = leaves.0 in
     let here = stands world leaves.1 in
-    let Q : BlockFiles → Type 0 = λ files. HasSoundCopies M files in
+    let Q : BlockFiles → Type 0 = λ files. HasSoundCopies (M id) files in
     subst Q (sym (image_files world image id here.aside leaves.2))
-    (block_is_sound M (view_of world id) (books id) (cells id) (here.blocks id valid))
+    (block_is_sound (M id) (view_of world id) (books id) (cells id) (here.blocks id valid))

@@ -38,7 +38,7 @@ adds_named view after leftovers rest there back adds = record {
   only = λ v f listed. adds.only v f (back v f listed);
 }
 
-module _ (M : List ℕ → List ℕ → Type 0) (view after : View) (ticket : Option Ticket) (entry : Entry) (replica : Replica) (leftovers : List Leftover)
+module _ (M : List ℕ → Replica → Type 0) (view after : View) (ticket : Option Ticket) (entry : Entry) (replica : Replica) (leftovers : List Leftover)
     (stands : BlockStands M view (books_of (Some entry) [] ticket) (final replica)) (adds : Adds view after leftovers) where
   entry_finalised : (f : File) → StateNames entry.state entry.stamp f → IsFinalised f
   entry_finalised f names = final_finalised entry.stamp f (subst (λ s. StateNames s entry.stamp f) stands.agrees.0 names)
@@ -96,7 +96,7 @@ module _ (M : List ℕ → List ℕ → Type 0) (view after : View) (ticket : Op
   }
 
 -- EVERY EXIT of `start_append` keeps what stands
-module _ (M : List ℕ → List ℕ → Type 0) (view : View) (ticket : Option Ticket) (entry : Entry) (replica : Replica) (writer : Writer) (more : ℕ)
+module _ (M : List ℕ → Replica → Type 0) (view : View) (ticket : Option Ticket) (entry : Entry) (replica : Replica) (writer : Writer) (more : ℕ)
     (stands : BlockStands M view (books_of (Some entry) [] ticket) (final replica))
     (same_vol : writer.vol ≡ entry.vol) (stamped : IsStamp writer.stamp) (newer : entry.stamp < writer.stamp)
     (len : writer.len ≡ length replica.bytes + more) (new : IsNew ticket writer.rev) where

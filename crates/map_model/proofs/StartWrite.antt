@@ -3,7 +3,7 @@ use Rattle.std.proofs.Common.{◌≡◌, ◌⊎◌, inl, inr, ℕ, true, List, [
 use Rattle.std.specs.Prelude.{IsTrue, IfSome}
 use Rattle.volume_layout.specs.Paths.{IsStamp}
 use Rattle.volume_layout.proofs.Reading.{is_stamp-IsStamp}
-use Rattle.map_model.specs.Cells.{Cell, absent, growing, waiting}
+use Rattle.map_model.specs.Cells.{Replica, Cell, absent, growing, waiting}
 use Rattle.map_model.specs.Allows.{AllowsFiles}
 use Rattle.map_model.specs.Slots.{File, block, meta, writing_block, writing_meta, temporary_block, temporary_meta, drafted, is_standing, View, files_in}
 use Rattle.map_model.specs.Stands.{is_written, is_waiting, Entry, Leftover, Ticket, BlockBooks, StateNames, MoveNames, Names, IsListed, Each, LeftoverFits, IsFinalised, TicketStands, BlockStands}
@@ -63,7 +63,7 @@ adds_ticket before after leftovers (Some t) adds stands = record {
 }
 
 -- an absent block to which a writer's files came, and which waits
-pub start_waits : (M : List ℕ → List ℕ → Type 0) (before after : View) (ticket : Option Ticket) (writer : Writer) (leftovers : List Leftover) →
+pub start_waits : (M : List ℕ → Replica → Type 0) (before after : View) (ticket : Option Ticket) (writer : Writer) (leftovers : List Leftover) →
     BlockStands M before (books_of None [] ticket) absent → IsStamp writer.stamp → IsNew ticket writer.rev →
     Adds before after leftovers → Each (LeftoverFits (Some (writer_entry writer is_waiting))) leftovers →
     BlockStands M after (books_of (Some (writer_entry writer is_waiting)) leftovers ticket) waiting
@@ -150,7 +150,7 @@ none_left before after (Some t) leftovers adds stands =
     record { block_draft = it.block_draft; meta_draft = it.meta_draft; wanted = tt }
 
 -- a started writer
-started_stands : (M : List ℕ → List ℕ → Type 0) (view : View) (ticket : Option Ticket) (writer : Writer) →
+started_stands : (M : List ℕ → Replica → Type 0) (view : View) (ticket : Option Ticket) (writer : Writer) →
     BlockStands M view (books_of None [] ticket) absent → IsStamp writer.stamp → IsNew ticket writer.rev →
     BlockStands M (both_created view writer)
     (books_of (Some (writer_entry writer (is_written None writer.block_number writer.meta_number))) [] ticket) (growing writer.stamp None [] writer.len)
@@ -184,7 +184,7 @@ started_stands M view ticket writer stands stamped new =
     }
 
 -- EVERY EXIT of `start_write` keeps what stands
-pub start_write_stands : (M : List ℕ → List ℕ → Type 0) (view : View) (ticket : Option Ticket) (writer : Writer) (after : View) (books : BlockBooks) (cell : Cell) →
+pub start_write_stands : (M : List ℕ → Replica → Type 0) (view : View) (ticket : Option Ticket) (writer : Writer) (after : View) (books : BlockBooks) (cell : Cell) →
     BlockStands M view (books_of None [] ticket) absent → IsStamp writer.stamp → IsNew ticket writer.rev →
     StartsWrite view ticket writer after books cell → BlockStands M after books cell
 start_write_stands M view ticket writer after books cell stands stamped new started = started_stands M view ticket writer stands stamped new
@@ -207,7 +207,7 @@ start_write_stands M view ticket writer after books cell stands stamped new meta
     start_waits M view (block_created view writer) ticket writer (block_left writer true ∷ []) stands stamped new (adds_block view writer) (fits_block writer, tt)
 
 -- EVERY MOMENT of `start_write` is quiet: the cell before allows what is read
-pub start_write_moments : (M : List ℕ → List ℕ → Type 0) (view : View) (ticket : Option Ticket) (writer : Writer) (after : View) (books : BlockBooks) (cell : Cell) →
+pub start_write_moments : (M : List ℕ → Replica → Type 0) (view : View) (ticket : Option Ticket) (writer : Writer) (after : View) (books : BlockBooks) (cell : Cell) →
     BlockStands M view (books_of None [] ticket) absent → IsStamp writer.stamp → IsNew ticket writer.rev →
     StartsWrite view ticket writer after books cell → AllowsFiles absent (files_in after)
 start_write_moments M view ticket writer after books cell stands stamped new started =

@@ -2,7 +2,7 @@
 use Rattle.std.proofs.Common.{◌≡◌, ◌⊎◌, inl, inr, ℕ, List, Option, Some, None, sym, subst}
 use Rattle.std.specs.Prelude.{IsTrue, IfSome}
 use Rattle.volume_layout.specs.Paths.{IsStamp}
-use Rattle.map_model.specs.Cells.{absent, waiting}
+use Rattle.map_model.specs.Cells.{Replica, absent, waiting}
 use Rattle.map_model.specs.Slots.{File, block, meta, writing_block, writing_meta, temporary_block, temporary_meta, drafted, is_standing, View, files_in}
 use Rattle.map_model.specs.Stands.{EntryState, is_waiting, Entry, Leftover, Ticket, base_of, StateNames, WriterStands, Names, IsListed, Each, LeftoverFits, HasNoPair, IsFinalised, TicketStands, BlockStands}
 use Rattle.map_model.specs.Tenures.{books_of, IsNew}
@@ -48,7 +48,7 @@ unwanted_ticket view entry leftovers None new stands = tt
 unwanted_ticket view entry leftovers (Some t) new stands =
     record { block_draft = stands.block_draft; meta_draft = stands.meta_draft; wanted = λ same. absurd (new same) }
 
-pub waits_stands : (M : List ℕ → List ℕ → Type 0) (view : View) (entry : Entry) (leftovers : List Leftover) (ticket : Option Ticket) →
+pub waits_stands : (M : List ℕ → Replica → Type 0) (view : View) (entry : Entry) (leftovers : List Leftover) (ticket : Option Ticket) →
     Waits view entry leftovers ticket → BlockStands M view (books_of (Some entry) leftovers ticket) waiting
 waits_stands M view entry leftovers ticket waits = record {
   agrees = waits.state;
@@ -67,7 +67,7 @@ waits_stands M view entry leftovers ticket waits = record {
 }
 
 -- nothing is read of a block that waits, as of an absent one
-pub reads_no_more : (M : List ℕ → List ℕ → Type 0) (view : View) (entry : Entry) (leftovers : List Leftover) (ticket : Option Ticket) →
+pub reads_no_more : (M : List ℕ → Replica → Type 0) (view : View) (entry : Entry) (leftovers : List Leftover) (ticket : Option Ticket) →
     BlockStands M view (books_of (Some entry) leftovers ticket) waiting → AllowsFiles absent (files_in view)
 reads_no_more M view entry leftovers ticket stands =
     let allows = files_allow M view (Some entry) leftovers ticket waiting stands in

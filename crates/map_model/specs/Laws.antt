@@ -18,7 +18,7 @@ abbrev pub OneReading : Type 0
 OneReading = (files : BlockFiles) (first second : Option Replica) → ReadsAs files first → ReadsAs files second → first ≡ second
 
 -- what stands for a block's cell is read as the cell allows
-abbrev pub BlockAllows : (List ℕ → List ℕ → Type 0) → Type 0
+abbrev pub BlockAllows : (List ℕ → Replica → Type 0) → Type 0
 BlockAllows IsMatch = (view : View) (books : BlockBooks) (cell : Cell) → BlockStands IsMatch view books cell → AllowsFiles cell (files_in view)
 
 -- what the cell after a command allows is between the cell before it and the cell that it was to leave
@@ -27,25 +27,25 @@ StepsAreBetween = (room : Room) (cell : Cell) (command : Command) (reply : Reply
     Step room cell command reply after → AllowsFiles after files → Between cell command files
 
 -- one world stands for the books and the cells of all blocks
-pub record WorldStands (IsMatch : List ℕ → List ℕ → Type 0) (books : ℕ → BlockBooks) (cells : Cells) (world : World) : Type 0 where
-  pub blocks : (id : ℕ) → IsBlockId id → BlockStands IsMatch (view_of world id) (books id) (cells id)
+pub record WorldStands (IsMatch : ℕ → List ℕ → Replica → Type 0) (books : ℕ → BlockBooks) (cells : Cells) (world : World) : Type 0 where
+  pub blocks : (id : ℕ) → IsBlockId id → BlockStands (IsMatch id) (view_of world id) (books id) (cells id)
   pub aside : DraftsAside world
 
 -- every world that the disk tells stands for them
-abbrev pub PoolStands : (List ℕ → List ℕ → Type 0) → Option (List World) → (ℕ → BlockBooks) → Cells → Type 0
+abbrev pub PoolStands : (ℕ → List ℕ → Replica → Type 0) → Option (List World) → (ℕ → BlockBooks) → Cells → Type 0
 PoolStands IsMatch told books cells = InEachWorld told (WorldStands IsMatch books cells)
 
 -- what a pool stands for, every image allows
-abbrev pub StandsAllows : (List ℕ → List ℕ → Type 0) → Type 0
+abbrev pub StandsAllows : (ℕ → List ℕ → Replica → Type 0) → Type 0
 StandsAllows IsMatch = (told : Option (List World)) (books : ℕ → BlockBooks) (cells : Cells) (image : Files) →
     PoolStands IsMatch told books cells → CanLeave told image → AllowsImage cells image
 
 -- what stands for a block's cell has copies that match
-abbrev pub BlockIsSound : (List ℕ → List ℕ → Type 0) → Type 0
+abbrev pub BlockIsSound : (List ℕ → Replica → Type 0) → Type 0
 BlockIsSound IsMatch = (view : View) (books : BlockBooks) (cell : Cell) → BlockStands IsMatch view books cell → HasSoundCopies IsMatch (files_in view)
 
 -- every image of what a pool stands for is sound
-abbrev pub StandsIsSound : (List ℕ → List ℕ → Type 0) → Type 0
+abbrev pub StandsIsSound : (ℕ → List ℕ → Replica → Type 0) → Type 0
 StandsIsSound IsMatch = (told : Option (List World)) (books : ℕ → BlockBooks) (cells : Cells) (image : Files) →
     PoolStands IsMatch told books cells → CanLeave told image → IsSoundBy IsMatch image
 
@@ -57,7 +57,7 @@ pub data CallsFilesOf (id : ℕ) (before : World) : World → Type 0 where
   a_remove : (vol : ℕ) (file : File) → IsTrue (is_file file) → CallsFilesOf id before (removed vol (path_of id file) before)
 
 -- a call between files of one block leaves what stands for every other block
-abbrev pub OtherBlocksStand : (List ℕ → List ℕ → Type 0) → Type 0
+abbrev pub OtherBlocksStand : (List ℕ → Replica → Type 0) → Type 0
 OtherBlocksStand IsMatch = (before after : World) (id other : ℕ) (books : BlockBooks) (cell : Cell) →
     IsBlockId id → IsBlockId other → id ≢ other → CallsFilesOf id before after →
     BlockStands IsMatch (view_of before other) books cell → BlockStands IsMatch (view_of after other) books cell

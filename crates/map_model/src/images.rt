@@ -1,30 +1,30 @@
 // What an image shows of the blocks that a disk stands for.
-ghost use Rattle.map_model.specs.Checksums.{Matches};
+ghost use Rattle.map_model.specs.Sound.{Verifies};
 ghost use Rattle.map_model.specs.Laws.{BlockAllows, BlockIsSound, OneReading, OtherBlocksStand, StandsAllows, StandsIsSound};
 
 /// What stands for a block is read as the cell of the block allows.
 pub fn block_allows()
-    ensures { BlockAllows Matches }
+    ensures { BlockAllows Verifies }
 {}
 
 /// Every image that a disk can leave is allowed by the cells that its worlds stand for.
 pub fn stands_allows()
-    ensures { StandsAllows Matches }
+    ensures { StandsAllows (λ id. Verifies) }
 {}
 
 /// Every copy that is read of what stands for a block matches its meta file.
 pub fn block_is_sound()
-    ensures { BlockIsSound Matches }
+    ensures { BlockIsSound Verifies }
 {}
 
 /// Every image that a disk can leave whose worlds stand for cells is sound.
 pub fn stands_is_sound()
-    ensures { StandsIsSound Matches }
+    ensures { StandsIsSound (λ id. Verifies) }
 {}
 
 /// A call of the disk between files of one block leaves what stands for every other block.
 pub fn other_blocks_stand()
-    ensures { OtherBlocksStand Matches }
+    ensures { OtherBlocksStand Verifies }
 {}
 
 /// The files of a block have one reading.

@@ -1,84 +1,84 @@
 // Each tenure keeps what stands of its block.
-ghost use Rattle.map_model.specs.Checksums.{Matches};
+ghost use Rattle.map_model.specs.Sound.{Verifies};
 ghost use Rattle.map_model.specs.TenureLaws.{BeginMoveStands, DeleteFinalStands, DeleteUnsureStands, DeleteWaitingStands, DropAppendStands, DropMoveStands, DropWriteStands, FinishAppendStands, FinishWriteIsBetween, FinishWriteStands, NothingStands, PublishMoveStands, RemovalStands, StartAppendStands, StartWriteIsQuiet, StartWriteStands};
 
 /// Of a block of which no file stands, the books know nothing, and it is absent.
 pub fn nothing_stands()
-    ensures { NothingStands Matches }
+    ensures { NothingStands Verifies }
 {}
 
 /// The removal of a leftover keeps what stands, whether it is done or fails.
 pub fn removal_stands()
-    ensures { RemovalStands Matches }
+    ensures { RemovalStands Verifies }
 {}
 
 /// The start of a fresh write keeps what stands, at every exit.
 pub fn start_write_stands()
-    ensures { StartWriteStands Matches }
+    ensures { StartWriteStands Verifies }
 {}
 
 /// Whatever the start of a fresh write leaves, the block is read as absent.
 pub fn start_write_is_quiet()
-    ensures { StartWriteIsQuiet Matches }
+    ensures { StartWriteIsQuiet Verifies }
 {}
 
 /// The finish of a fresh write keeps what stands, at every exit.
 pub fn finish_write_stands()
-    ensures { FinishWriteStands Matches }
+    ensures { FinishWriteStands Verifies }
 {}
 
 /// Whatever the finish of a fresh write leaves, the block is read as before it or as after it.
 pub fn finish_write_is_between()
-    ensures { FinishWriteIsBetween Matches }
+    ensures { FinishWriteIsBetween Verifies }
 {}
 
 /// The drop of a fresh write keeps what stands, at every exit, and so does a writer that is given
 /// up.
 pub fn drop_write_stands()
-    ensures { DropWriteStands Matches }
+    ensures { DropWriteStands Verifies }
 {}
 
 /// The drop of an append keeps what stands, at every exit, and so does a writer that is given up.
 pub fn drop_append_stands()
-    ensures { DropAppendStands Matches }
+    ensures { DropAppendStands Verifies }
 {}
 
 /// The deletion of a final block keeps what stands, at every exit.
 pub fn delete_final_stands()
-    ensures { DeleteFinalStands Matches }
+    ensures { DeleteFinalStands Verifies }
 {}
 
 /// The deletion of an unsure block keeps what stands, at every exit.
 pub fn delete_unsure_stands()
-    ensures { DeleteUnsureStands Matches }
+    ensures { DeleteUnsureStands Verifies }
 {}
 
 /// The deletion of a block that waits keeps what stands, once its leftovers are gone.
 pub fn delete_waiting_stands()
-    ensures { DeleteWaitingStands Matches }
+    ensures { DeleteWaitingStands Verifies }
 {}
 
 /// The start of an append keeps what stands, at every exit.
 pub fn start_append_stands()
-    ensures { StartAppendStands Matches }
+    ensures { StartAppendStands Verifies }
 {}
 
 /// The finish of an append keeps what stands, at every exit.
 pub fn finish_append_stands()
-    ensures { FinishAppendStands Matches }
+    ensures { FinishAppendStands Verifies }
 {}
 
 /// The beginning of a move keeps what stands, at every exit.
 pub fn begin_move_stands()
-    ensures { BeginMoveStands Matches }
+    ensures { BeginMoveStands Verifies }
 {}
 
 /// The publish of a move keeps what stands, at every exit.
 pub fn publish_move_stands()
-    ensures { PublishMoveStands Matches }
+    ensures { PublishMoveStands Verifies }
 {}
 
 /// The drop of a move keeps what stands.
 pub fn drop_move_stands()
-    ensures { DropMoveStands Matches }
+    ensures { DropMoveStands Verifies }
 {}

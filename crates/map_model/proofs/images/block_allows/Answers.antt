@@ -1,6 +1,6 @@
-use Rattle.map_model.specs.Checksums.{Matches}
+use Rattle.map_model.specs.Sound.{Verifies}
 use Rattle.map_model.proofs.LawProofs as laws
 use Rattle.map_model.proofs.images.block_allows.Goals as goal
 
 pub returns : goal.returns
-returns c = laws.block_allows Matches
+returns c = laws.block_allows Verifies

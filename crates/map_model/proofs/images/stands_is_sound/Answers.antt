@@ -1,6 +1,6 @@
-use Rattle.map_model.specs.Checksums.{Matches}
+use Rattle.map_model.specs.Sound.{Verifies}
 use Rattle.map_model.proofs.Soundness as laws
 use Rattle.map_model.proofs.images.stands_is_sound.Goals as goal
 
 pub returns : goal.returns
-returns c = laws.stands_is_sound Matches
+returns c = laws.stands_is_sound (λ id. Verifies)

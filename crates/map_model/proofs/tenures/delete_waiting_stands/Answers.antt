@@ -1,6 +1,6 @@
-use Rattle.map_model.specs.Checksums.{Matches}
+use Rattle.map_model.specs.Sound.{Verifies}
 use Rattle.map_model.proofs.Delete.{delete_waiting_stands}
 use Rattle.map_model.proofs.tenures.delete_waiting_stands.Goals as goal
 
 pub returns : goal.returns
-returns c = delete_waiting_stands Matches
+returns c = delete_waiting_stands Verifies

@@ -1,6 +1,6 @@
-use Rattle.map_model.specs.Checksums.{Matches}
+use Rattle.map_model.specs.Sound.{Verifies}
 use Rattle.map_model.proofs.FinishFresh.{finish_fresh_stands}
 use Rattle.map_model.proofs.tenures.finish_write_stands.Goals as goal
 
 pub returns : goal.returns
-returns c = finish_fresh_stands Matches
+returns c = finish_fresh_stands Verifies

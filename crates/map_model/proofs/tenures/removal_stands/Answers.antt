@@ -1,6 +1,6 @@
-use Rattle.map_model.specs.Checksums.{Matches}
+use Rattle.map_model.specs.Sound.{Verifies}
 use Rattle.map_model.proofs.Removing.{removes_stands}
 use Rattle.map_model.proofs.tenures.removal_stands.Goals as goal
 
 pub returns : goal.returns
-returns c = removes_stands Matches
+returns c = removes_stands Verifies
