@@ -1,5 +1,5 @@
 -- How the end of a write follows from the tenure that ends it.
-use Rattle.std.proofs.Common.{◌≡◌, ◌<◌, ◌^◌, inl, inr, ℕ, Bool, List, length, Option, None, Some, Result, Ok, Err, refl, sym, ap, subst, arith}
+use Rattle.std.proofs.Common.{◌≡◌, ◌<◌, ◌^◌, inl, inr, ℕ, List, length, Option, None, Some, Result, Ok, Err, refl, sym, ◌∙◌, ap, subst, arith}
 use Rattle.std.proofs.lemmas.Bool.Decides.{nat_tests}
 use Rattle.disk_model.specs.Files.{Files}
 use Rattle.disk_model.specs.declared.disks.PoolDisks.{Ghosts}
@@ -8,17 +8,20 @@ use Rattle.disk_model.specs.declared.disks.SealedDraft as sealed
 use Rattle.disk_model.specs.declared.disks.Reader as readers
 use Rattle.disk_model.specs.Worlds.{World, DraftPlace}
 use Rattle.map_model.specs.Cells.{Cell, Cells, absent}
+use Rattle.map_model.specs.Sound.{Knowledge, learned}
 use Rattle.map_model.specs.Steps.{Command, Reply, CarriedOut, write, write_refusal}
 use Rattle.pool_state.specs.declared.entry.Entry.{Entry}
 use Rattle.pool_state.specs.declared.pool_record.Pool.{Pool}
+use Rattle.pair_draft.specs.Writers.{Pair}
+use Rattle.pool_state.specs.Writers.{PairStands, meta_of}
 use Rattle.pool_state.specs.Answers.{unlimited, TakesStep}
-use Rattle.pool_state.specs.Tenures.{Takes}
+use Rattle.pool_state.specs.Tenures.{TakesLearning}
 use Rattle.client_ops.specs.declared.writing.FillFault.{FillFault}
 use Rattle.client_ops.specs.declared.writing.FillFault.TheVariants.{Failed as FillFailed, Memory as FillMemory}
 use Rattle.client_ops.specs.declared.writing.Filled.{Filled}
 use Rattle.client_ops.specs.declared.writing.OpReply.{OpReply}
 use Rattle.client_ops.specs.declared.writing.OpReply.TheVariants.{Ok as EndsOk, Failed as EndsFailed, Memory as EndsMemory}
-use Rattle.client_ops.specs.Writing.{fill_fault, FillStands, op_answer, EndLeaves, EndsAsWrite, EndsWrite}
+use Rattle.client_ops.specs.Writing.{fill_fault, FillStands, op_answer, EndLeaves, EndLearns, EndsAsWrite, EndsWrite}
 
 -- the same fault
 abbrev fault_of : {X E : Type 0} → E → Result X E → E
@@ -29,7 +32,7 @@ pub same_fault : {X E : Type 0} (one other : E) → ◌≡◌ {A = Result X E} (
 same_fault one other same = ap (fault_of one) same
 
 -- more is known of the cell that a tenure leaves
-pub says_else : {id : ℕ} {command : Command} {answer : Reply} {SaysOf Other : Cell → Type 0} {cells : Cells} {Stood StandsFor : Bool → Cells → Type 0} {past since : ℕ → Files → Type 0} →
+pub says_else : {id : ℕ} {command : Command} {answer : Reply} {SaysOf Other : Cell → Type 0} {cells : Cells} {Stood StandsFor : Knowledge → Cells → Type 0} {past since : ℕ → Files → Type 0} →
     TakesStep id command answer SaysOf cells Stood StandsFor past since → ((cell : Cell) → SaysOf cell → Other cell) → TakesStep id command answer Other cells Stood StandsFor past since
 says_else step more = record {
   to = record { cell = step.to.cell; step = step.to.step; says = more step.to.cell step.to.says; stands = step.to.stands };
@@ -40,13 +43,15 @@ says_else step more = record {
 
 module _ {D S T R : Type 0} {g : Ghosts D S T R} {d : drafts.Ghosts T S} {s : sealed.Ghosts S} {r : readers.Ghosts R} {cells : Cells} {old new : Pool D S T R g d s r} where
   -- the end of a write is a tenure on its block
-  pub ends_by : {at id stamp : ℕ} {bytes : List ℕ} {fault : Option FillFault} {reply : OpReply} {command : Command} {answer : Reply} {SaysOf : Cell → Type 0} →
-      at ≡ id → Takes at command answer SaysOf cells old new → ((cell : Cell) → SaysOf cell → EndLeaves fault reply stamp bytes cell) →
-      EndsWrite id stamp bytes fault reply cells old new
-  ends_by {at} {id} {stamp} {bytes} {fault} {reply} {command} {answer} same takes more = record {
+  pub ends_by : {at id stamp : ℕ} {bytes : List ℕ} {fault : Option FillFault} {reply : OpReply} {command : Command} {answer : Reply} {SaysOf : Cell → Type 0} {learn : Knowledge → Knowledge} →
+      at ≡ id → TakesLearning learn at command answer SaysOf cells old new → ((cell : Cell) → SaysOf cell → EndLeaves fault reply stamp bytes cell) →
+      EndLearns fault id (record { stamp = stamp; bytes = bytes }) learn → EndsWrite id stamp bytes fault reply cells old new
+  ends_by {at} {id} {stamp} {bytes} {fault} {reply} {command} {answer} {learn = learn} same takes more learns = record {
     command = command;
     answer = answer;
-    takes = subst (λ n. Takes n command answer (EndLeaves fault reply stamp bytes) cells old new) same (says_else takes more);
+    learn = learn;
+    learns = learns;
+    takes = subst (λ n. TakesLearning learn n command answer (EndLeaves fault reply stamp bytes) cells old new) same (says_else takes more);
   }
 
   -- by what the bytes became
@@ -58,6 +63,15 @@ module _ {D S T R : Type 0} {g : Ghosts D S T R} {d : drafts.Ghosts T S} {s : se
   ends_at place bytes_of sealed_place sealed_bytes told entries id stamp bytes filled known reply is fill ends =
       subst (λ f. EndsWrite id stamp bytes (fill_fault f) reply cells old new) (sym is)
       (ends (subst (FillStands place bytes_of sealed_place sealed_bytes told entries id stamp bytes) is fill))
+
+-- what is known once a sealed pair was published
+pub sealed_learns : {told : Option (List World)} {entries : ℕ → Option Entry} {p : Pair} {id stamp : ℕ} {bytes : List ℕ} →
+    (there : (p.id ≡ id) × (p.stamp ≡ stamp) × PairStands told entries p bytes) → EndLearns None id (record { stamp = stamp; bytes = bytes }) (learned p.id p.stamp (meta_of there.2))
+sealed_learns {p = p} {id = id} there = (
+  meta_of there.2,
+  there.2.sealed.of_bytes.matches,
+  ap (λ n. learned n p.stamp (meta_of there.2)) there.0 ∙ ap (λ s. learned id s (meta_of there.2)) there.1,
+)
 
 -- no length is refused
 free_write : (len : ℕ) → len < 2 ^ 64 → write_refusal unlimited absent len ≡ None

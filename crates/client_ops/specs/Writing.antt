@@ -5,14 +5,15 @@ use Rattle.disk_model.specs.declared.disks.Draft as drafts
 use Rattle.disk_model.specs.declared.disks.SealedDraft as sealed
 use Rattle.disk_model.specs.declared.disks.Reader as readers
 use Rattle.disk_model.specs.Worlds.{World, DraftPlace}
-use Rattle.map_model.specs.Cells.{Cell, Cells, absent, final, unsure, waiting}
+use Rattle.map_model.specs.Cells.{Replica, Cell, Cells, absent, final, unsure, waiting}
+use Rattle.map_model.specs.Sound.{Knowledge, Verifies, learned}
 use Rattle.map_model.specs.Steps.{Command, Reply, Step, write, done, failed, memory}
 use Rattle.pair_draft.specs.declared.writer.Writing.{Writing}
 use Rattle.pair_draft.specs.Writers.{writer_of, pair_of}
 use Rattle.pool_state.specs.declared.entry.Entry.{Entry}
 use Rattle.pool_state.specs.declared.pool_record.Pool.{Pool}
 use Rattle.pool_state.specs.Answers.{unlimited}
-use Rattle.pool_state.specs.Tenures.{Takes}
+use Rattle.pool_state.specs.Tenures.{TakesLearning}
 use Rattle.pool_state.specs.Writers.{WriterBelongs, PairStands}
 use Rattle.client_ops.specs.declared.writing.Op.{Op}
 use Rattle.client_ops.specs.declared.writing.Op.TheVariants.{Write}
@@ -58,9 +59,16 @@ abbrev pub EndsAsWrite : Type 0
 EndsAsWrite = (fault : Option FillFault) (reply : OpReply) (stamp : ℕ) (bytes : List ℕ) (cell : Cell) → length bytes < 2 ^ 64 →
     EndLeaves fault reply stamp bytes cell → Step unlimited absent (write stamp bytes) (op_answer reply) cell
 
--- The end of a write: a tenure on its block.
+-- what more is known of meta files after the end of a write of this replica: of one whose bytes were made sure of, its own, which matches
+abbrev pub EndLearns : Option FillFault → (id : ℕ) → Replica → (Knowledge → Knowledge) → Type 0
+EndLearns None id replica learn = (meta : List ℕ) × Verifies meta replica × (learn ≡ learned id replica.stamp meta)
+EndLearns (Some fault) id replica learn = learn ≡ (λ known. known)
+
+-- The end of a write: a tenure on its block, after which so much is known.
 pub record EndsWrite {D S T R : Type 0} {g : Ghosts D S T R} {d : drafts.Ghosts T S} {s : sealed.Ghosts S} {r : readers.Ghosts R}
     (id stamp : ℕ) (bytes : List ℕ) (fault : Option FillFault) (reply : OpReply) (cells : Cells) (old new : Pool D S T R g d s r) : Type 0 where
   pub command : Command
   pub answer : Reply
-  pub takes : Takes id command answer (EndLeaves fault reply stamp bytes) cells old new
+  pub learn : Knowledge → Knowledge
+  pub learns : EndLearns fault id (record { stamp = stamp; bytes = bytes }) learn
+  pub takes : TakesLearning learn id command answer (EndLeaves fault reply stamp bytes) cells old new

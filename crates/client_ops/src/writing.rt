@@ -1,9 +1,10 @@
 //! A write as a whole, in three calls: its start and its end are tenures of the pool, and between them its bytes are written
 //! without the pool.
-ghost use Rattle.std.specs.Prelude.{false, ◌≡◌, ◌≢◌, ◌⊎◌, ◌-◌, ◌<◌, ℕ, [], length, List, None, Some, IsErr, IsOk, IfOk, IfSome, IsErrOf, IsTrue, Option, Err, is_some};
+ghost use Rattle.std.specs.Prelude.{◌≡◌, ◌≢◌, ◌⊎◌, ◌-◌, ◌<◌, ℕ, [], length, List, None, Some, IsErr, IsOk, IfOk, IfSome, IsErrOf, IsTrue, Option, Err, is_some};
 ghost use Rattle.disk_model.specs.Causes.{Rose};
 ghost use Rattle.disk_model.specs.Worlds.{World};
 ghost use Rattle.map_model.specs.Cells.{Cells, growing, waiting};
+ghost use Rattle.map_model.specs.Sound.{nothing};
 ghost use Rattle.map_model.specs.Steps.{start_write};
 ghost use Rattle.pair_draft.specs.Writers.{writer_of, FailedOf};
 ghost use Rattle.pool_state.specs.declared.entry.Entry.{Entry};
@@ -69,7 +70,7 @@ pub fn write_start<D: PoolDisks>(
     len: u64,
 ) -> Result<Op<D>, StartFault>
     requires stands { StandsForSome pool.old }
-    ensures step { (cells : Cells) → Stands pool.old false cells →
+    ensures step { (cells : Cells) → Stands pool.old nothing cells →
         Takes id (start_write stamp len) (start_reply result)
         (λ cell. (result ≡ Err StartFault.Failed → cell ≡ waiting)
         × (result ≡ Err StartFault.Memory → cell ≡ waiting → D.next_number pool.old.disks < D.next_number pool.new.disks)
@@ -135,7 +136,7 @@ pub fn op_end<D: PoolDisks>(pool: &mut Pool<D>, filled: Filled<D>) -> OpReply
     requires stands { StandsForSome pool.old }
     requires belongs { (id stamp : ℕ) × (bytes : List ℕ) ×
         FillStands D.Draft.place D.Draft.bytes D.Sealed.place D.Sealed.bytes (D.worlds pool.old.disks) (entry_at pool.old.map) id stamp bytes filled }
-    ensures step { (cells : Cells) (id stamp left : ℕ) (bytes : List ℕ) → Stands pool.old false cells →
+    ensures step { (cells : Cells) (id stamp left : ℕ) (bytes : List ℕ) → Stands pool.old nothing cells →
         FillStands D.Draft.place D.Draft.bytes D.Sealed.place D.Sealed.bytes (D.worlds pool.old.disks) (entry_at pool.old.map) id stamp bytes filled →
         cells id ≡ growing stamp None bytes left →
         EndsWrite id stamp bytes (fill_fault filled) result cells pool.old pool.new }

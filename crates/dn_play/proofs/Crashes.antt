@@ -1,12 +1,12 @@
 -- What a crash can leave while lines are carried out, one after the other.
-use Rattle.std.proofs.Common.{◌≡◌, inl, inr, ℕ, true, false, List, [], ◌∷◌, ◌++◌, Option, refl, sym, subst}
+use Rattle.std.proofs.Common.{◌≡◌, inl, inr, ℕ, List, [], ◌∷◌, ◌++◌, Option, refl, sym, subst}
 use Rattle.disk_model.specs.Files.{Files}
 use Rattle.disk_model.specs.Worlds.{World}
 use Rattle.disk_model.specs.Told.{CanLeave}
 use Rattle.disk_model.specs.Moments.{AddsOnly}
 use Rattle.map_model.specs.Cells.{Cells}
 use Rattle.map_model.specs.Allows.{AllowsImage}
-use Rattle.map_model.specs.Sound.{MatchesIf, IsSound}
+use Rattle.map_model.specs.Sound.{Knowledge, matching, Fits, IsSound}
 use Rattle.map_model.specs.Stands.{Leftover}
 use Rattle.map_model.specs.Laws as model
 use Rattle.map_model.proofs.LawProofs.{stands_allows}
@@ -20,28 +20,28 @@ use Rattle.map_model.specs.Copies.{OneWhole}
 use Rattle.dn_play.specs.Images.{AllowedByOne, AllowedSinceEach, LinesCrashSafe}
 
 -- what the disks can leave now, the cells of the pool allow
-pub leaves_allowed : {told : Option (List World)} {volumes : ℕ} {entries : ℕ → Option Entry} {found : ℕ → List Leftover} {cells : Cells} → PoolStands told volumes entries found false cells →
+pub leaves_allowed : {told : Option (List World)} {volumes : ℕ} {entries : ℕ → Option Entry} {found : ℕ → List Leftover} {known : Knowledge} {cells : Cells} → PoolStands told volumes entries found known cells →
     (image : Files) → CanLeave told image → AllowsImage cells image
-leaves_allowed {told} {volumes} {entries} {found} {cells} stands image leaves =
-    let whole : model.PoolStands (MatchesIf false) told (λ id. block_books (entries id) (found id)) cells =
+leaves_allowed {told} {volumes} {entries} {found} {known} {cells} stands image leaves =
+    let whole : model.PoolStands (Fits known) told (λ id. block_books (entries id) (found id)) cells =
     λ world is. record { blocks = stands.blocks world is; aside = stands.aside world is } in
-    stands_allows (MatchesIf false) told (λ id. block_books (entries id) (found id)) cells image whole leaves
+    stands_allows (Fits known) told (λ id. block_books (entries id) (found id)) cells image whole leaves
 
 -- and is sound where the meta files match
-pub leaves_sound : {told : Option (List World)} {volumes : ℕ} {entries : ℕ → Option Entry} {found : ℕ → List Leftover} {cells : Cells} → PoolStands told volumes entries found true cells →
+pub leaves_sound : {told : Option (List World)} {volumes : ℕ} {entries : ℕ → Option Entry} {found : ℕ → List Leftover} {cells : Cells} → PoolStands told volumes entries found matching cells →
     (image : Files) → CanLeave told image → IsSound image
 leaves_sound {told} {volumes} {entries} {found} {cells} stands image leaves =
-    let whole : model.PoolStands (MatchesIf true) told (λ id. block_books (entries id) (found id)) cells =
+    let whole : model.PoolStands (Fits matching) told (λ id. block_books (entries id) (found id)) cells =
     λ world is. record { blocks = stands.blocks world is; aside = stands.aside world is } in
-    stands_is_sound (MatchesIf true) told (λ id. block_books (entries id) (found id)) cells image whole leaves
+    stands_is_sound (Fits matching) told (λ id. block_books (entries id) (found id)) cells image whole leaves
 
 -- and so what some moment from now on could have left
-pub now_allowed : {told : Option (List World)} {volumes : ℕ} {entries : ℕ → Option Entry} {found : ℕ → List Leftover} {cells : Cells} {since : Files → Type 0} → PoolStands told volumes entries found false cells →
+pub now_allowed : {told : Option (List World)} {volumes : ℕ} {entries : ℕ → Option Entry} {found : ℕ → List Leftover} {known : Knowledge} {cells : Cells} {since : Files → Type 0} → PoolStands told volumes entries found known cells →
     ((image : Files) → since image → CanLeave told image) → (image : Files) → since image → AllowsImage cells image
 now_allowed stands only image s = leaves_allowed stands image (only image s)
 
 -- what the disks can leave where the pool stands
-pub leaves_safe : {told : Option (List World)} {volumes : ℕ} {entries : ℕ → Option Entry} {found : ℕ → List Leftover} {cells : Cells} → PoolStands told volumes entries found false cells →
+pub leaves_safe : {told : Option (List World)} {volumes : ℕ} {entries : ℕ → Option Entry} {found : ℕ → List Leftover} {known : Knowledge} {cells : Cells} → PoolStands told volumes entries found known cells →
     (image : Files) → CanLeave told image → AllowsImage cells image × OneWhole image
 leaves_safe stands image leaves = (leaves_allowed stands image leaves, leaves_whole stands image leaves)
 

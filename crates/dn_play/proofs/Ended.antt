@@ -14,10 +14,11 @@ use Rattle.client_ops.specs.declared.writing.FillFault.{FillFault}
 use Rattle.client_ops.specs.declared.writing.FillFault.TheVariants.{Failed as FillFailed, Memory as FillMemory}
 use Rattle.client_ops.specs.declared.writing.OpReply.{OpReply}
 use Rattle.client_ops.specs.declared.writing.OpReply.TheVariants.{Ok as EndsOk, Failed as EndsFailed, Memory as EndsMemory}
-use Rattle.client_ops.specs.Writing.{op_answer, EndLeaves}
+use Rattle.map_model.specs.Sound.{Metas, Knowledge, matching, exactly, with_meta}
+use Rattle.client_ops.specs.Writing.{op_answer, EndLeaves, EndLearns}
 use Rattle.script_lang.specs.declared.reply.Reply.{Reply}
 use Rattle.dn_play.specs.State.{Numbers, Mark}
-use Rattle.dn_play.specs.Commands.{Trust, Says, DisksFailed, FailsBy}
+use Rattle.dn_play.specs.Commands.{Trust, Says, LearnsOf, LearnsBy, MetasAfter, DisksFailed, FailsBy}
 use Rattle.dn_play.specs.Replies.{end_reply}
 use Rattle.dn_play.specs.Standing.{NotGrowing}
 use Rattle.dn_play.proofs.Stepping.{at_block_steps}
@@ -33,7 +34,7 @@ fill_step {told} {volumes} {entries} {found} {cells} id stamp piece w belongs sa
     ap cells same_id ∙ grows ∙ ap (λ n. growing stamp None [] n) rest ∙ ap (λ s. growing s None [] (w.reserved - w.len)) (sym same_stamp) in
     at_block_steps same_id (pushes told volumes entries found cells w [] piece stamp (length piece) (length piece) belongs at (omega (arith, rest)) (sym same_stamp) (omega (arith, none)) (sym full))
 
-pub says_end : (trust : Trust) (reply : OpReply) (said : Reply) → said ≡ end_reply reply → Says trust (op_answer reply) said
+pub says_end : (trust : Trust) {metas : ℕ → List ℕ} (reply : OpReply) (said : Reply) → said ≡ end_reply reply → Says trust metas (op_answer reply) said
 says_end trust EndsOk said is = is
 says_end trust EndsFailed said is = is
 says_end trust EndsMemory said is = is
@@ -62,3 +63,42 @@ fails_write Faulty before after numbers old None EndsMemory stamp bytes cell is 
 fails_write Faulty before after numbers old (Some FillFailed) reply stamp bytes cell is leaves disks draft =
     subst (FailsBy Faulty before after numbers old (write stamp bytes)) (sym leaves.1) (inr (draft refl), refl)
 fails_write Faulty before after numbers old (Some FillMemory) reply stamp bytes cell is leaves disks draft = absurd (let bad : EndsMemory ≡ EndsFailed = sym leaves.0 ∙ is in cc)
+
+-- what is known of meta files after the end of a write, where they were these
+pub record EndKnows (reply : OpReply) (stamp : ℕ) (bytes : List ℕ) (cell : Cell) (id : ℕ) (learn : Knowledge → Knowledge) (old : Metas) : Type 0 where
+  pub metas : Metas
+  pub is : learn (exactly old) ≡ exactly metas
+  pub matching_stays : learn matching ≡ matching
+  pub after : MetasAfter (write stamp bytes) (op_answer reply) old id cell metas
+
+learned_of : (reply : OpReply) (stamp : ℕ) (bytes : List ℕ) (cell : Cell) (id : ℕ) (learn : Knowledge → Knowledge) (old : Metas) →
+    EndLearns None id (record { stamp = stamp; bytes = bytes }) learn → ((metas : Metas) → LearnsOf old id (record { stamp = stamp; bytes = bytes }) metas → MetasAfter (write stamp bytes) (op_answer reply) old id cell metas) →
+    EndKnows reply stamp bytes cell id learn old
+learned_of reply stamp bytes cell id learn old learns after = record {
+  metas = with_meta old id stamp learns.0;
+  is = ap (λ f. f (exactly old)) learns.2;
+  matching_stays = ap (λ f. f matching) learns.2;
+  after = after (with_meta old id stamp learns.0) (record { meta = learns.0; verifies = learns.1; is = refl });
+}
+
+stopped_of : (reply : OpReply) (stamp : ℕ) (bytes : List ℕ) (cell : Cell) (id : ℕ) (learn : Knowledge → Knowledge) (old : Metas) →
+    learn ≡ (λ known. known) → MetasAfter (write stamp bytes) (op_answer reply) old id cell old → EndKnows reply stamp bytes cell id learn old
+stopped_of reply stamp bytes cell id learn old same after = record {
+  metas = old;
+  is = ap (λ f. f (exactly old)) same;
+  matching_stays = ap (λ f. f matching) same;
+  after = after;
+}
+
+pub end_knows : (fault : Option FillFault) (reply : OpReply) (stamp : ℕ) (bytes : List ℕ) (cell : Cell) (id : ℕ) (learn : Knowledge → Knowledge) (old : Metas) →
+    EndLearns fault id (record { stamp = stamp; bytes = bytes }) learn → EndLeaves fault reply stamp bytes cell → EndKnows reply stamp bytes cell id learn old
+end_knows None EndsOk stamp bytes cell id learn old learns leaves =
+    learned_of EndsOk stamp bytes cell id learn old learns (λ metas known. subst (λ c. LearnsBy old id c metas) (sym leaves) known)
+end_knows None EndsFailed stamp bytes cell id learn old learns leaves =
+    learned_of EndsFailed stamp bytes cell id learn old learns (λ metas known. subst (λ c. LearnsBy old id c metas) (sym leaves) known)
+end_knows None EndsMemory stamp bytes cell id learn old learns leaves = absurd leaves
+end_knows (Some FillFailed) reply stamp bytes cell id learn old learns leaves =
+    stopped_of reply stamp bytes cell id learn old learns
+    (subst (λ r. MetasAfter (write stamp bytes) (op_answer r) old id cell old) (sym leaves.0) (subst (λ c. LearnsBy old id c old) (sym leaves.1) refl))
+end_knows (Some FillMemory) reply stamp bytes cell id learn old learns leaves =
+    stopped_of reply stamp bytes cell id learn old learns (subst (λ r. MetasAfter (write stamp bytes) (op_answer r) old id cell old) (sym leaves.0) refl)

@@ -1,5 +1,5 @@
 -- What opening a pool again shows, and what a crash can leave meanwhile.
-use Rattle.std.proofs.Common.{◌≡◌, inl, inr, ℕ, Bool, true, List, [], Option, Some, None, MatchOption, refl, ap, sym, ◌∙◌, subst, IsTrue, IsSome, option_map}
+use Rattle.std.proofs.Common.{◌≡◌, inl, inr, ℕ, List, [], Option, Some, None, MatchOption, refl, ap, sym, ◌∙◌, subst, IsTrue, IsSome, option_map}
 use Rattle.std.specs.Prelude.{Result, Ok, Err, OnOk, OnErr}
 use Rattle.disk_model.specs.Files.{Files}
 use Rattle.disk_model.specs.Worlds.{World}
@@ -7,12 +7,11 @@ use Rattle.disk_model.specs.Told.{IsWorldOf, InEachWorld}
 use Rattle.disk_model.specs.Moments.{AddsOnly}
 use Rattle.volume_layout.specs.Paths.{IsBlockId}
 use Rattle.map_model.specs.Cells.{Replica, Cell, Cells, absent, final, growing, unsure, waiting}
-use Rattle.map_model.specs.Checksums.{Matches}
 use Rattle.map_model.specs.Copies.{Spot, BlockFiles, IsCopy, IsAlone, ReadsAs, OneWhole}
 use Rattle.map_model.specs.Allows.{AllowsFiles, AllowsImage}
 use Rattle.map_model.specs.Openings.{LeavesBlockFile, WaitsExactly, MakesCell, shown_files}
 use Rattle.map_model.specs.Slots.{File, block, writing_block, is_standing, View, files_in, view_of}
-use Rattle.map_model.specs.Sound.{MatchesIf, HasSoundCopies, IsSound}
+use Rattle.map_model.specs.Sound.{Knowledge, matching, exactly, Fits, HasSoundCopies, IsSound}
 use Rattle.map_model.specs.Stands.{Agrees, Leftover, is_written, is_waiting, WritesOver, Entry as BookEntry, BlockStands}
 use Rattle.map_model.specs.Steps.{FoundAs, Reopened}
 use Rattle.map_model.proofs.LawProofs.{block_allows}
@@ -26,7 +25,7 @@ use Rattle.pool_state.specs.Books.{entry_state, book_entry, block_books}
 use Rattle.pool_state.specs.Stands.{IsNotWaiting, PoolStands}
 use Rattle.pool_state.proofs.Whole.{block_whole}
 use Rattle.pair_draft.specs.Writers.{Writer}
-use Rattle.pool_open.specs.Outcome.{HasSoundFiles, HasWholeFiles, ReadsAsOne, IsOpened, Opens}
+use Rattle.pool_open.specs.Outcome.{HasFiles, HasWholeFiles, ReadsAsOne, IsOpened, Opens}
 use Rattle.pool_open.proofs.Shown.{shown_view}
 use Rattle.script_lang.specs.declared.Line.TheVariants.{Reopen}
 use Rattle.script_lang.specs.declared.reply.Reply.TheVariants.{Done}
@@ -73,7 +72,7 @@ absent_entry : (entry : Option Entry) → Agrees (option_map book_entry entry) a
 absent_entry None agrees = refl
 absent_entry (Some e) agrees = absurd agrees
 
-nothing_stands : (M : List ℕ → List ℕ → Type 0) (view : View) → BlockStands M view (block_books None []) absent → (vol : ℕ) (file : File) → IsTrue (is_standing (view vol file)) → ⊥
+nothing_stands : (M : List ℕ → Replica → Type 0) (view : View) → BlockStands M view (block_books None []) absent → (vol : ℕ) (file : File) → IsTrue (is_standing (view vol file)) → ⊥
 nothing_stands M view stands vol file there = elim (stands.accounted vol file there) [
   | inl (inl names) ↦ names
   | inl (inr names) ↦ names
@@ -87,7 +86,7 @@ no_block_file view none leaves = elim leaves.1 [
 ]
 
 -- the block file of an open writer stands
-written_file : (M : List ℕ → List ℕ → Type 0) (view : View) (entry : Option Entry) (found : List Leftover) (stamp left : ℕ) (bytes : List ℕ) →
+written_file : (M : List ℕ → Replica → Type 0) (view : View) (entry : Option Entry) (found : List Leftover) (stamp left : ℕ) (bytes : List ℕ) →
     BlockStands M view (block_books entry found) (growing stamp None bytes left) → LeavesBlockFile (files_in view)
 written_file M view None found stamp left bytes stands = absurd stands.agrees
 written_file M view (Some e) found stamp left bytes stands = by_state e.state refl
@@ -111,7 +110,7 @@ based None base stamp left bytes agrees = agrees
 based (Some e) base stamp left bytes agrees = no_base e e.state base stamp refl agrees.2
 
 -- WHAT A CELL IS FOUND AS
-module _ (M : List ℕ → List ℕ → Type 0) (view : View) (entry : Option Entry) (found : List Leftover) (clean : IsNotWaiting entry → found ≡ [])
+module _ (M : List ℕ → Replica → Type 0) (view : View) (entry : Option Entry) (found : List Leftover) (clean : IsNotWaiting entry → found ≡ [])
     (new : Cell) (made : MakesCell (files_in view) new) (opened : IsOpened new) where
   found_again : (cell : Cell) → BlockStands M view (block_books entry found) cell → (read : Option Replica) → ReadsAs (files_in view) read → FoundAs read new
   found_again cell stands read reads = found_so (files_in view) new read reads made opened
@@ -148,21 +147,21 @@ module _ (M : List ℕ → List ℕ → Type 0) (view : View) (entry : Option En
 
 -- ---- the pool
 
-module _ {told : Option (List World)} {volumes : ℕ} {entries : ℕ → Option Entry} {found : ℕ → List Leftover} {sound : Bool} {cells : Cells}
-    (stands : PoolStands told volumes entries found sound cells) where
+module _ {told : Option (List World)} {volumes : ℕ} {entries : ℕ → Option Entry} {found : ℕ → List Leftover} {known : Knowledge} {cells : Cells}
+    (stands : PoolStands told volumes entries found known cells) where
   module _ (world : World) (is : IsWorldOf told world) (id : ℕ) (valid : IsBlockId id) where
-    own : BlockStands (MatchesIf sound) (view_of world id) (block_books (entries id) (found id)) (cells id)
+    own : BlockStands (Fits known id) (view_of world id) (block_books (entries id) (found id)) (cells id)
     own = stands.blocks world is id valid
 
     same : shown_files world id ≡ files_in (view_of world id)
     same = shown_view world id (stands.aside world is)
 
     pub cell_reopened : (new : Cell) → MakesCell (shown_files world id) new → IsOpened new → Reopened (cells id) new
-    cell_reopened new made opened = block_reopened (MatchesIf sound) (view_of world id) (entries id) (found id) (stands.clean id valid) new
+    cell_reopened new made opened = block_reopened (Fits known id) (view_of world id) (entries id) (found id) (stands.clean id valid) new
         (subst (λ (f : BlockFiles). MakesCell f new) same made) opened (cells id) own
 
     world_allowed : AllowsFiles (cells id) (shown_files world id)
-    world_allowed = subst (λ (f : BlockFiles). AllowsFiles (cells id) f) (sym same) (block_allows (MatchesIf sound) (view_of world id) (block_books (entries id) (found id)) (cells id) own)
+    world_allowed = subst (λ (f : BlockFiles). AllowsFiles (cells id) f) (sym same) (block_allows (Fits known id) (view_of world id) (block_books (entries id) (found id)) (cells id) own)
 
   -- what reads as one of its worlds, its cells allow
   pub reads_allowed : (image : Files) → ReadsAsOne told image → AllowsImage cells image
@@ -174,21 +173,21 @@ module _ {told : Option (List World)} {volumes : ℕ} {entries : ℕ → Option 
   world_whole : (world : World) → IsWorldOf told world → HasWholeFiles world
   world_whole world is id valid =
       subst (λ (f : BlockFiles). (spot : Spot) (replica : Replica) → IsCopy f spot replica → IsAlone f spot) (sym (same world is id valid))
-      (block_whole (MatchesIf sound) (view_of world id) (entries id) (found id) (cells id) (own world is id valid) (stands.clean id valid))
+      (block_whole (Fits known id) (view_of world id) (entries id) (found id) (cells id) (own world is id valid) (stands.clean id valid))
 
   pub reads_whole : (image : Files) → ReadsAsOne told image → OneWhole image
   reads_whole image reads = reads.2.whole (world_whole reads.0 reads.1)
 
--- and where the copies match, they do in each world, and in the image
-pub worlds_sound : {told : Option (List World)} {volumes : ℕ} {entries : ℕ → Option Entry} {found : ℕ → List Leftover} {cells : Cells} → PoolStands told volumes entries found true cells →
-    InEachWorld told HasSoundFiles
-worlds_sound {entries = entries} {found = found} {cells = cells} stands world is id valid =
-    subst (λ (f : BlockFiles). HasSoundCopies Matches f) (sym (shown_view world id (stands.aside world is)))
-    (block_is_sound Matches (view_of world id) (block_books (entries id) (found id)) (cells id) (stands.blocks world is id valid))
+-- what is known of the meta files is so in each world, and where they match, in the image
+pub worlds_known : {told : Option (List World)} {volumes : ℕ} {entries : ℕ → Option Entry} {found : ℕ → List Leftover} {known : Knowledge} {cells : Cells} →
+    PoolStands told volumes entries found known cells → InEachWorld told (HasFiles known)
+worlds_known {entries = entries} {found = found} {known = known} {cells = cells} stands world is id valid =
+    subst (λ (f : BlockFiles). HasSoundCopies (Fits known id) f) (sym (shown_view world id (stands.aside world is)))
+    (block_is_sound (Fits known id) (view_of world id) (block_books (entries id) (found id)) (cells id) (stands.blocks world is id valid))
 
-pub reads_sound : {told : Option (List World)} {volumes : ℕ} {entries : ℕ → Option Entry} {found : ℕ → List Leftover} {cells : Cells} → PoolStands told volumes entries found true cells →
+pub reads_sound : {told : Option (List World)} {volumes : ℕ} {entries : ℕ → Option Entry} {found : ℕ → List Leftover} {cells : Cells} → PoolStands told volumes entries found matching cells →
     (image : Files) → ReadsAsOne told image → IsSound image
-reads_sound stands image reads = reads.2.sound (worlds_sound stands reads.0 reads.1)
+reads_sound stands image reads = reads.2.sound (worlds_known stands reads.0 reads.1)
 
 -- ---- the line
 
@@ -196,14 +195,14 @@ reads_sound stands image reads = reads.2.sound (worlds_sound stands reads.0 read
 pub carried_reopen : {Faulty : ℕ → ℕ → Type 0} {told told' : Option (List World)} {volumes volumes' : ℕ} {entries entries' : ℕ → Option Entry} {found found' : ℕ → List Leftover}
     {writers writers' : ℕ → Option Writer} {state : RunState} {before after : Mark} {past since : ℕ → Files → Type 0} → Standing told volumes entries found writers state →
     (opens : Opens told told' volumes' entries' found' past since) → ((id : ℕ) → writers' id ≡ None) → AddsOnly past since (ReadsAsOne told) →
-    LineCarried Faulty told state before Reopen Done after (Standing told' volumes' entries' found' writers') (PoolStands told volumes entries found true) (PoolStands told' volumes' entries' found' true) past since
+    LineCarried Faulty told state before Reopen Done after (Standing told' volumes' entries' found' writers') (PoolStands told volumes entries found matching) (PoolStands told' volumes' entries' found' matching) past since
 carried_reopen {told = told} {volumes = volumes} {entries = entries} {found = found} {writers' = writers'} {state = state} standing opens none images = record {
-  new = opened_of opens.cells state.writers;
-  stands = stands_opened writers' opens state.writers none;
-  does = λ trust known. record { done = refl; cells = by_trust trust known; writers = λ id. refl };
+  new = opened_of opens.cells state.metas state.writers;
+  stands = stands_opened writers' opens (opens.stands_by (exactly state.metas) (worlds_known standing.pool)) state.writers none;
+  does = λ trust known. record { done = refl; cells = by_trust trust known; metas = refl; writers = λ id. refl };
   crash = record {
     images = λ t image s. elim (images t image s) [ inl earlier ↦ inl earlier | inr reads ↦ inr (inl (reads_allowed standing.pool image reads)) ];
-    sound = λ was. opens.stands true (λ yes. worlds_sound was);
+    sound = λ was. opens.stands_by matching (worlds_known was);
     sound_images = λ was t image s. elim (images t image s) [ inl earlier ↦ inl earlier | inr reads ↦ inr (reads_sound was image reads) ];
     whole = λ t image s. elim (images t image s) [ inl earlier ↦ inl earlier | inr reads ↦ inr (reads_whole standing.pool image reads) ];
   };
@@ -214,14 +213,14 @@ carried_reopen {told = told} {volumes = volumes} {entries = entries} {found = fo
         let shows = opens.shown known in
         λ id valid. cell_reopened standing.pool shows.world shows.is id valid (opens.cells id) (shows.made id valid) (opens.opened id valid)
 
-    by_trust : (trust : Trust) → IsKnown (PoolStands told volumes entries found true state.cells) trust told → CellsReopened trust state.cells opens.cells
+    by_trust : (trust : Trust) → IsKnown (PoolStands told volumes entries found matching state.cells) trust told → CellsReopened trust state.cells opens.cells
     by_trust any_disks known = opens.opened
     by_trust telling_disks known = by_telling known
     by_trust sound_disks known = by_telling known.0
 
 -- it wasn't: what a crash can leave, the cells before allow
 pub stays_reopen : {told : Option (List World)} {volumes : ℕ} {entries : ℕ → Option Entry} {found : ℕ → List Leftover} {writers : ℕ → Option Writer} {state : RunState} {past since : ℕ → Files → Type 0} →
-    Standing told volumes entries found writers state → AddsOnly past since (ReadsAsOne told) → StaysCrashSafe state.cells (PoolStands told volumes entries found true) past since
+    Standing told volumes entries found writers state → AddsOnly past since (ReadsAsOne told) → StaysCrashSafe state.cells (PoolStands told volumes entries found matching) past since
 stays_reopen standing images = record {
   images = λ t image s. elim (images t image s) [ inl earlier ↦ inl earlier | inr reads ↦ inr (reads_allowed standing.pool image reads) ];
   sound_images = λ was t image s. elim (images t image s) [ inl earlier ↦ inl earlier | inr reads ↦ inr (reads_sound was image reads) ];

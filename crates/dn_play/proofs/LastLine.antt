@@ -124,6 +124,7 @@ goes_weaker Faulty since can_leave course ending shown goes = elim goes [
     opened = r.opened;
     one_meta = r.one_meta;
     from_start = r.from_start;
+    metas_from_start = r.metas_from_start;
     counts = r.counts;
     follows = r.follows;
     at_exit = ends_weaker course.input (turn_lines r.turns) ending (last_mark r.mark r.turns) course.exit r.read r.at_exit;

@@ -17,7 +17,7 @@ use Rattle.map_model.specs.Cells.{Replica, Cell, Cells, absent, final, waiting}
 use Rattle.map_model.specs.Copies.{BlockFiles, block_files}
 use Rattle.map_model.specs.Allows.{Allows, AllowsImage}
 use Rattle.map_model.specs.Openings.{LeavesBlockFile, WaitsExactly, MakesCells, shown_files, ReadsAlike}
-use Rattle.map_model.specs.Sound.{IsSound}
+use Rattle.map_model.specs.Sound.{Metas, matching, exactly, Fits, HasSoundCopies, IsSound}
 use Rattle.map_model.specs.Stands.{Leftover}
 use Rattle.pool_state.specs.declared.entry.Entry.{Entry}
 use Rattle.pool_state.specs.Stands.{GoesOn, PoolStands}
@@ -34,31 +34,32 @@ use Rattle.dn_play.specs.Play.{Course, IsBeforeOpened, RunsPool}
 use Rattle.dn_play.proofs.Progress.{known_on}
 
 -- the state that an opening leaves
-abbrev pub opened_of : Cells → (ℕ → Numbers) → RunState
-opened_of cells numbers = record { cells = cells; writers = numbers }
+abbrev pub opened_of : Cells → Metas → (ℕ → Numbers) → RunState
+opened_of cells metas numbers = record { cells = cells; metas = metas; writers = numbers }
 
 -- the state that a run begins with
-abbrev pub first_of : Cells → RunState
-first_of cells = opened_of cells (λ id. record { first = 0; last = 0 })
+abbrev pub first_of : Cells → Metas → RunState
+first_of cells metas = opened_of cells metas (λ id. record { first = 0; last = 0 })
 
 not_growing : (cell : Cell) → IsOpened cell → NotGrowing cell
 not_growing cell (inl is) = subst NotGrowing (sym is) tt
 not_growing cell (inr (inl is)) = subst NotGrowing (sym is.1) tt
 not_growing cell (inr (inr is)) = subst NotGrowing (sym is) tt
 
--- a session without writers stands for the cells that the opening made
+-- a session without writers stands for the cells that the opening made, of whose meta files so much is known
 pub stands_opened : {before told : Option (List World)} {volumes : ℕ} {entries : ℕ → Option Entry} {found : ℕ → List Leftover} {past since : ℕ → Files → Type 0} (writers : ℕ → Option Writer) →
-    (opens : Opens before told volumes entries found past since) → (numbers : ℕ → Numbers) → ((id : ℕ) → writers id ≡ None) → Standing told volumes entries found writers (opened_of opens.cells numbers)
-stands_opened {before} {told} {volumes} {entries} {found} writers opens numbers none = record {
-  pool = opens.stands false (λ no. absurd cc);
+    (opens : Opens before told volumes entries found past since) → {metas : Metas} → PoolStands told volumes entries found (exactly metas) opens.cells → (numbers : ℕ → Numbers) → ((id : ℕ) → writers id ≡ None) →
+    Standing told volumes entries found writers (opened_of opens.cells metas numbers)
+stands_opened {before} {told} {volumes} {entries} {found} writers opens pool numbers none = record {
+  pool = pool;
   writer = λ id valid. subst (λ w. MatchOption w (NotGrowing (opens.cells id)) (OpenWriter told entries id (opens.cells id) (numbers id))) (sym (none id))
       (not_growing (opens.cells id) (opens.opened id valid));
 }
 
 -- and so for those that a run begins with
 pub stands_first : {before told : Option (List World)} {volumes : ℕ} {entries : ℕ → Option Entry} {found : ℕ → List Leftover} {past since : ℕ → Files → Type 0} (writers : ℕ → Option Writer) →
-    (opens : Opens before told volumes entries found past since) → ((id : ℕ) → writers id ≡ None) → Standing told volumes entries found writers (first_of opens.cells)
-stands_first writers opens none = stands_opened writers opens (λ id. record { first = 0; last = 0 }) none
+    (opens : Opens before told volumes entries found past since) → ((id : ℕ) → writers id ≡ None) → Standing told volumes entries found writers (first_of opens.cells opens.metas)
+stands_first writers opens none = stands_opened writers opens opens.stands (λ id. record { first = 0; last = 0 }) none
 
 -- the only world of a fresh disk
 abbrev fresh : Files → World
@@ -157,8 +158,8 @@ module _ {D S T R : Type 0} (g : Ghosts D S T R) (Faulty : ℕ → ℕ → Type 
       (input taken taken' : Option (List ℕ)) (ending : Ending) → out ≡ after → GoesOn g before mid →
       (opens : Opens (g.worlds before) (g.worlds mid) volumes entries found (g.left_since before) (g.left_since mid)) →
       ((image : Files) → g.left_since mid (g.moment mid) image → CanLeave (g.worlds mid) image) →
-      Played Faulty (g.worlds mid) (first_of opens.cells) (mark_of g mid) (mark_of g after) input taken taken' ending
-      (LeavesAllowed (g.worlds after)) (PoolStands (g.worlds mid) volumes entries found true) SoundNow (g.left_since mid) (g.left_since after) → IsOfLines ending →
+      Played Faulty (g.worlds mid) (first_of opens.cells opens.metas) (mark_of g mid) (mark_of g after) input taken taken' ending
+      (LeavesAllowed (g.worlds after)) (PoolStands (g.worlds mid) volumes entries found matching) SoundNow (g.left_since mid) (g.left_since after) → IsOfLines ending →
       ((image : Files) → HoldsImage (g.worlds before) image → HasTwoMetas image → ⊥) → AddsOnly (g.left_since before) (g.left_since mid) (ReadsAsOne (g.worlds before)) →
       (ending ≡ Later 0 → (image : Files) → CanLeave (g.worlds after) image → HasTwoMetas image) →
       RunsPool Faulty (g.left_since out) (CanLeave (g.worlds out)) (course_between out input) taken taken' ending
@@ -169,15 +170,18 @@ module _ {D S T R : Type 0} (g : Ghosts D S T R) (Faulty : ℕ → ℕ → Type 
       subst (λ d. RunsPool Faulty (g.left_since d) (CanLeave (g.worlds d)) (course_between d input) taken taken' ending) (sym is) (record {
         shown = p.shown;
         goes = inr (record {
-          first = first_of opens.cells;
+          first = first_of opens.cells opens.metas;
           mark = mark_of g mid;
           turns = p.turns;
           opened = opens.opened;
           one_meta = one_meta;
           from_start = made;
+          metas_from_start = λ start holds.
+              let shows = opens.shown (tells (g.worlds before) start holds) in
+              shown_start (g.worlds before) start shows.world holds shows.is (λ files. (id : ℕ) → IsBlockId id → HasSoundCopies (Fits (exactly opens.metas) id) (files id)) shows.metas_are;
           counts = record { faults = went.faults; next_number = went.next_number; moment = went.moment };
           follows = λ trust known. p.follows trust (known_on trust (g.worlds before) (g.worlds mid) went.honest.0
-              (λ begins. opens.stands true (λ yes. sound_start (g.worlds before) begins.0 begins.1 begins.2)) known);
+              (λ begins. opens.stands_by matching (sound_start (g.worlds before) begins.0 begins.1 begins.2)) known);
           at_exit = p.at_mark;
           read = p.read;
           shows = p.shows;
@@ -202,7 +206,7 @@ module _ {D S T R : Type 0} (g : Ghosts D S T R) (Faulty : ℕ → ℕ → Type 
           later = later;
           sound = λ start holds sound image s.
               let worlds_are = sound_start (g.worlds before) start holds sound in
-              elim (p.crash.sound_images (opens.stands true (λ yes. worlds_are)) (g.moment before) image s) [
+              elim (p.crash.sound_images (opens.stands_by matching worlds_are) (g.moment before) image s) [
                 | inr is_sound ↦ is_sound
                 | inl opening ↦ elim (meanwhile (g.moment before) image opening) [
                   | inl earlier ↦ subst IsSound (sym (only_start (g.worlds before) start image holds (only_now image earlier))) sound
@@ -213,6 +217,6 @@ module _ {D S T R : Type 0} (g : Ghosts D S T R) (Faulty : ℕ → ℕ → Type 
         written = p.written;
       })
     where
-      from_first : (turns : List Rattle.dn_play.specs.State.Turn) (image : Files) → AllowsImage opens.cells image → Rattle.dn_play.specs.Images.AllowedByOne (first_of opens.cells) turns image
+      from_first : (turns : List Rattle.dn_play.specs.State.Turn) (image : Files) → AllowsImage opens.cells image → Rattle.dn_play.specs.Images.AllowedByOne (first_of opens.cells opens.metas) turns image
       from_first [] image allows = allows
       from_first (turn ∷ turns) image allows = inl allows

@@ -18,6 +18,7 @@ use Rattle.meta_file.specs.declared.verdict.Verdict.TheVariants.{Whole}
 use Rattle.meta_file.specs.Verdicts.{verdict_of}
 use Rattle.pair_draft.specs.Checking.{IsOnLength}
 use Rattle.pair_draft.specs.Writers.{Writer, FailedOf}
+use Rattle.map_model.specs.Sound.{Metas, Verifies, exactly, with_meta}
 use Rattle.pool_state.specs.Readers.{Lends, IsFaulty}
 use Rattle.script_lang.specs.declared.reply.Reply.{Reply}
 use Rattle.script_lang.specs.declared.reply.Reply.TheVariants.{Data}
@@ -26,22 +27,22 @@ use Rattle.dn_play.specs.State.{Numbers, RunState, Mark}
 use Rattle.disk_model.specs.Files.{Files}
 use Rattle.dn_play.specs.Lines.{Does}
 use Rattle.dn_play.specs.Images.{CrashSafe}
-use Rattle.dn_play.specs.Commands.{Trust, any_disks, telling_disks, sound_disks, Says, Gives, begins_writer}
+use Rattle.dn_play.specs.Commands.{Trust, any_disks, telling_disks, sound_disks, Says, Gives, LearnsBy, MetasAfter, begins_writer}
 use Rattle.dn_play.specs.Replies.{refusal_reply, deletion_reply, read_reply}
 use Rattle.dn_play.specs.Standing.{NotGrowing, IsKnown, LineCarried}
 
 -- the reply of a refused start
-says_refusal : (trust : Trust) (fault : StartFault) → Says trust (start_fault fault) (refusal_reply fault)
-says_refusal trust WasThere = refl
-says_refusal trust WasAbsent = refl
-says_refusal trust WasWriting = refl
-says_refusal trust WasWaiting = refl
-says_refusal trust WasUnsure = refl
-says_refusal trust HasFailed = refl
-says_refusal trust NoMemory = refl
+says_refusal : (trust : Trust) (metas : ℕ → List ℕ) (fault : StartFault) → Says trust metas (start_fault fault) (refusal_reply fault)
+says_refusal trust metas WasThere = refl
+says_refusal trust metas WasAbsent = refl
+says_refusal trust metas WasWriting = refl
+says_refusal trust metas WasWaiting = refl
+says_refusal trust metas WasUnsure = refl
+says_refusal trust metas HasFailed = refl
+says_refusal trust metas NoMemory = refl
 
-pub says_fault : (trust : Trust) (fault : StartFault) (reply : Reply) → reply ≡ refusal_reply fault → Says trust (start_fault fault) reply
-says_fault trust fault reply is = subst (Says trust (start_fault fault)) (sym is) (says_refusal trust fault)
+pub says_fault : (trust : Trust) {metas : ℕ → List ℕ} (fault : StartFault) (reply : Reply) → reply ≡ refusal_reply fault → Says trust metas (start_fault fault) reply
+says_fault trust {metas} fault reply is = subst (Says trust metas (start_fault fault)) (sym is) (says_refusal trust metas fault)
 
 pub is_failed : (fault : StartFault) → start_fault fault ≡ failed → fault ≡ HasFailed
 is_failed WasThere is = absurd cc
@@ -144,11 +145,11 @@ module _ (cell : Cell) (replica : Replica) (is : cell ≡ final replica) where
   not_waiting waits = let bad : final replica ≡ waiting = sym is ∙ waits in cc
 
 -- what a read gives that isn't refused
-module _ {told : Option (List World)} {cell : Cell} {stamp len : ℕ} {block_bytes meta_bytes : Option (List ℕ)} (lent : Lends false told cell stamp len block_bytes meta_bytes) (Sound : Type 0) where
+module _ {told : Option (List World)} {metas : Metas} {id : ℕ} {cell : Cell} {stamp len : ℕ} {block_bytes meta_bytes : Option (List ℕ)} (lent : Lends (exactly metas) id told cell stamp len block_bytes meta_bytes) (Sound : Type 0) where
   -- the replica was whole
   pub gives_data : (stamp' : ℕ) (bytes : List ℕ) → stamp' ≡ stamp → length bytes ≡ len → ((all : List ℕ) → block_bytes ≡ Some all → bytes ≡ take len all) →
       ((sums : List ℕ) → block_bytes ≡ Some lent.replica.bytes → meta_bytes ≡ Some sums → length sums < 2 ^ 64 → verdict_of sums lent.replica.bytes len ≡ Whole) →
-      (trust : Trust) → IsKnown Sound trust told → Gives trust lent.replica (Data stamp' bytes)
+      (trust : Trust) → IsKnown Sound trust told → Gives trust (metas id lent.replica.stamp) lent.replica (Data stamp' bytes)
   gives_data stamp' bytes same full front verified = by_trust
     where
       is_data : IsSome told → ◌≡◌ {A = Reply} (Data stamp' bytes) (Data lent.replica.stamp lent.replica.bytes)
@@ -156,24 +157,22 @@ module _ {told : Option (List World)} {cell : Cell} {stamp len : ℕ} {block_byt
           let right : bytes ≡ lent.replica.bytes = front lent.replica.bytes (lent.bytes_are known) ∙ ap (λ n. take n lent.replica.bytes) lent.len_is ∙ take-length lent.replica.bytes in
           ap (λ s. Data s bytes) (same ∙ lent.stamp_is) ∙ ap (λ b. Data lent.replica.stamp b) right
 
-      by_trust : (trust : Trust) → IsKnown Sound trust told → Gives trust lent.replica (Data stamp' bytes)
+      by_trust : (trust : Trust) → IsKnown Sound trust told → Gives trust (metas id lent.replica.stamp) lent.replica (Data stamp' bytes)
       by_trust any_disks known = record { bytes = bytes; len = full ∙ lent.len_is; verdict = Whole; on_length = tt; reply_is = ap (λ s. Data s bytes) (same ∙ lent.stamp_is) }
       by_trust telling_disks known =
           let it = lent.meta_is known in
           let whole = verified it.content (lent.bytes_are known) it.is it.few in
-          record {
-            meta = it.content;
-            reply_is = is_data known ∙ ap (read_reply lent.replica.stamp lent.replica.bytes) (sym (ap (verdict_of it.content lent.replica.bytes) (sym lent.len_is) ∙ whole));
-          }
+          is_data known ∙ ap (read_reply lent.replica.stamp lent.replica.bytes)
+          (sym (ap (λ m. verdict_of m lent.replica.bytes (length lent.replica.bytes)) (sym it.matches) ∙ ap (verdict_of it.content lent.replica.bytes) (sym lent.len_is) ∙ whole))
       by_trust sound_disks known = is_data known.0
 
   -- it wasn't: such a verdict never comes of disks that began sound
   pub gives_verdict : (verdict : Verdict) (reply : Reply) → ((s : ℕ) (bytes : List ℕ) → reply ≡ read_reply s bytes verdict) → IsOnLength len verdict →
       ((sums : List ℕ) → block_bytes ≡ Some lent.replica.bytes → meta_bytes ≡ Some sums → length sums < 2 ^ 64 → verdict ≡ verdict_of sums lent.replica.bytes len) →
-      (IsSome told → Sound → ⊥) → (trust : Trust) → IsKnown Sound trust told → Gives trust lent.replica reply
+      (IsSome told → Sound → ⊥) → (trust : Trust) → IsKnown Sound trust told → Gives trust (metas id lent.replica.stamp) lent.replica reply
   gives_verdict verdict reply is on_length of never = by_trust
     where
-      by_trust : (trust : Trust) → IsKnown Sound trust told → Gives trust lent.replica reply
+      by_trust : (trust : Trust) → IsKnown Sound trust told → Gives trust (metas id lent.replica.stamp) lent.replica reply
       by_trust any_disks known = record {
         bytes = lent.replica.bytes;
         len = refl;
@@ -183,11 +182,9 @@ module _ {told : Option (List World)} {cell : Cell} {stamp len : ℕ} {block_byt
       }
       by_trust telling_disks known =
           let it = lent.meta_is known in
-          record {
-            meta = it.content;
-            reply_is = is lent.replica.stamp lent.replica.bytes
-                ∙ ap (read_reply lent.replica.stamp lent.replica.bytes) (of it.content (lent.bytes_are known) it.is it.few ∙ ap (verdict_of it.content lent.replica.bytes) lent.len_is);
-          }
+          is lent.replica.stamp lent.replica.bytes
+          ∙ ap (read_reply lent.replica.stamp lent.replica.bytes) (of it.content (lent.bytes_are known) it.is it.few ∙ ap (verdict_of it.content lent.replica.bytes) lent.len_is
+          ∙ ap (λ m. verdict_of m lent.replica.bytes (length lent.replica.bytes)) it.matches)
       by_trust sound_disks known = absurd (never known.0 known.1)
 
 -- the draft that failed is one of the writer's
@@ -287,6 +284,31 @@ write_unstarted cell stamp bytes fault after is fits left step =
 pub write_begins_nothing : (stamp : ℕ) (bytes : List ℕ) (answer : Answer) → begins_writer (write stamp bytes) answer ≡ false
 write_begins_nothing stamp bytes answer = refl
 
+-- what more is known of meta files after the end of a write, by the cell that it left
+pub learns_final : (metas : Metas) (id at stamp : ℕ) (bytes meta : List ℕ) → at ≡ id → Verifies meta (record { stamp = stamp; bytes = bytes }) →
+    (cell : Cell) → cell ≡ final (record { stamp = stamp; bytes = bytes }) → LearnsBy metas id cell (with_meta metas at stamp meta)
+learns_final metas id at stamp bytes meta same verifies cell is =
+    subst (λ c. LearnsBy metas id c (with_meta metas at stamp meta)) (sym is) (record { meta = meta; verifies = verifies; is = ap (λ n. with_meta metas n stamp meta) same })
+
+pub learns_doubt : (metas : Metas) (id at stamp : ℕ) (bytes meta : List ℕ) → at ≡ id → Verifies meta (record { stamp = stamp; bytes = bytes }) →
+    (cell : Cell) → cell ≡ unsure None (Some (record { stamp = stamp; bytes = bytes })) false → LearnsBy metas id cell (with_meta metas at stamp meta)
+learns_doubt metas id at stamp bytes meta same verifies cell is =
+    subst (λ c. LearnsBy metas id c (with_meta metas at stamp meta)) (sym is) (record { meta = meta; verifies = verifies; is = ap (λ n. with_meta metas n stamp meta) same })
+
+pub learns_waiting : (metas : Metas) (id : ℕ) (cell : Cell) → cell ≡ waiting → LearnsBy metas id cell metas
+learns_waiting metas id cell is = subst (λ c. LearnsBy metas id c metas) (sym is) refl
+
+-- and publishes nothing, where it is refused or its start fails
+pub write_learns_nothing : (stamp : ℕ) (bytes : List ℕ) (fault : StartFault) (metas : Metas) (id : ℕ) (cell : Cell) → (fault ≡ HasFailed → cell ≡ waiting) →
+    MetasAfter (write stamp bytes) (start_fault fault) metas id cell metas
+write_learns_nothing stamp bytes WasThere metas id cell waits = refl
+write_learns_nothing stamp bytes WasAbsent metas id cell waits = refl
+write_learns_nothing stamp bytes WasWriting metas id cell waits = refl
+write_learns_nothing stamp bytes WasWaiting metas id cell waits = refl
+write_learns_nothing stamp bytes WasUnsure metas id cell waits = refl
+write_learns_nothing stamp bytes HasFailed metas id cell waits = subst (λ c. LearnsBy metas id c metas) (sym (waits refl)) refl
+write_learns_nothing stamp bytes NoMemory metas id cell waits = refl
+
 -- a deletion that isn't refused is of a block without a writer
 pub deletable : (cell : Cell) → delete_refusal cell ≡ None → NotGrowing cell
 deletable absent is = tt
@@ -302,13 +324,13 @@ deleted_rests (growing stamp base bytes left) is = absurd cc
 deleted_rests (unsure x y cut) is = tt
 deleted_rests waiting is = tt
 
-says_deletion : (trust : Trust) (fault : DeleteFault) → Says trust (delete_fault fault) (deletion_reply fault)
-says_deletion trust NotThere = refl
-says_deletion trust IsWrittenNow = refl
-says_deletion trust RemovalFailed = refl
+says_deletion : (trust : Trust) (metas : ℕ → List ℕ) (fault : DeleteFault) → Says trust metas (delete_fault fault) (deletion_reply fault)
+says_deletion trust metas NotThere = refl
+says_deletion trust metas IsWrittenNow = refl
+says_deletion trust metas RemovalFailed = refl
 
-pub says_delete : (trust : Trust) (fault : DeleteFault) (reply : Reply) → reply ≡ deletion_reply fault → Says trust (delete_fault fault) reply
-says_delete trust fault reply is = subst (Says trust (delete_fault fault)) (sym is) (says_deletion trust fault)
+pub says_delete : (trust : Trust) {metas : ℕ → List ℕ} (fault : DeleteFault) (reply : Reply) → reply ≡ deletion_reply fault → Says trust metas (delete_fault fault) reply
+says_delete trust {metas} fault reply is = subst (Says trust metas (delete_fault fault)) (sym is) (says_deletion trust metas fault)
 
 pub delete_not_failed : (fault : DeleteFault) → (fault ≡ RemovalFailed → ⊥) → delete_fault fault ≡ failed → ⊥
 delete_not_failed NotThere never same = cc

@@ -17,7 +17,9 @@ use Rattle.pool_state.specs.Writers.{WriterStands}
 use Rattle.pool_state.proofs.Belonging.{stands_elsewhere}
 use Rattle.script_lang.specs.declared.reply.Reply.{Reply}
 use Rattle.dn_play.specs.State.{Numbers, RunState, Mark}
-use Rattle.dn_play.specs.Commands.{Trust, Says, FailsBy, begins_writer, given}
+use Rattle.dn_play.specs.Commands.{Trust, Says, FailsBy, begins_writer, MetasAfter, given}
+use Rattle.map_model.specs.Sound.{Metas, Knowledge, nothing, matching, exactly}
+use Rattle.pool_state.proofs.Changing.{stands_for_less}
 use Rattle.dn_play.specs.Standing.{NotGrowing, OpenWriter, Standing, IsKnown, CarriesOut}
 
 pub with_cell-here : (cells : Cells) (id : ℕ) (cell : Cell) → with_cell cells id cell id ≡ cell
@@ -32,6 +34,11 @@ put_here id key new old same = rw (eq-eqb id key same) refl
 
 pub put_other : {X : Type 0} (id key : ℕ) (new old : X) → id ≢ key → (if id == key then new else old) ≡ old
 put_other id key new old apart = rw (ne_eqb id key apart) refl
+
+-- where a session stands, nothing need be known of the meta files
+pub loose : {told : Option (List World)} {volumes : ℕ} {entries : ℕ → Option Entry} {found : ℕ → List Leftover} {writers : ℕ → Option Writer} {state : RunState} →
+    Standing told volumes entries found writers state → PoolStands told volumes entries found nothing state.cells
+loose standing = stands_for_less (λ id content replica fits. tt) standing.pool
 
 -- a writer of another block
 open_on : (told told' : Option (List World)) (entries entries' : ℕ → Option Entry) (id : ℕ) (cell : Cell) (numbers : Numbers) (w : Writer) →
@@ -61,13 +68,13 @@ keeps_open told told' entries entries' id cell numbers (Some w) honest same here
 
 -- A TENURE ON ONE BLOCK: the others' writers stay
 pub goes_on : {told told' : Option (List World)} {volumes volumes' : ℕ} {entries entries' : ℕ → Option Entry} {found found' : ℕ → List Leftover} {writers writers' : ℕ → Option Writer} {state : RunState} →
-    Standing told volumes entries found writers state → (id : ℕ) (cell : Cell) (numbers : ℕ → Numbers) →
-    PoolStands told' volumes' entries' found' false (with_cell state.cells id cell) → (IsSome told' → IsSome told) →
+    Standing told volumes entries found writers state → (id : ℕ) (cell : Cell) {metas : Metas} (numbers : ℕ → Numbers) →
+    PoolStands told' volumes' entries' found' (exactly metas) (with_cell state.cells id cell) → (IsSome told' → IsSome told) →
     ((other : ℕ) → other ≢ id → entries' other ≡ entries other) → ((other : ℕ) → other ≢ id → writers' other ≡ writers other) →
     ((other : ℕ) → other ≢ id → numbers other ≡ state.writers other) →
     MatchOption (writers' id) (NotGrowing cell) (OpenWriter told' entries' id cell (numbers id)) →
-    Standing told' volumes' entries' found' writers' (record { cells = with_cell state.cells id cell; writers = numbers })
-goes_on {told} {told'} {volumes} {volumes'} {entries} {entries'} {found} {found'} {writers} {writers'} {state} standing id cell numbers pool honest entries_stay writers_stay numbers_stay own = record {
+    Standing told' volumes' entries' found' writers' (record { cells = with_cell state.cells id cell; metas = metas; writers = numbers })
+goes_on {told} {told'} {volumes} {volumes'} {entries} {entries'} {found} {found'} {writers} {writers'} {state} standing id cell {metas} numbers pool honest entries_stay writers_stay numbers_stay own = record {
   pool = pool;
   writer = λ other valid. elim (cases_eq other id) [
     | inl same ↦
@@ -83,7 +90,7 @@ goes_on {told} {told'} {volumes} {volumes'} {entries} {entries'} {found} {found'
 
 -- where the same cells stand, and the same writers are open
 pub stays_on : {told told' : Option (List World)} {volumes volumes' : ℕ} {entries entries' : ℕ → Option Entry} {found found' : ℕ → List Leftover} {writers writers' : ℕ → Option Writer} {state : RunState} →
-    Standing told volumes entries found writers state → PoolStands told' volumes' entries' found' false state.cells → (IsSome told' → IsSome told) →
+    Standing told volumes entries found writers state → PoolStands told' volumes' entries' found' (exactly state.metas) state.cells → (IsSome told' → IsSome told) →
     ((id : ℕ) → entries' id ≡ entries id) → ((id : ℕ) → writers' id ≡ writers id) → Standing told' volumes' entries' found' writers' state
 stays_on {told} {told'} {volumes} {volumes'} {entries} {entries'} {found} {found'} {writers} {writers'} {state} standing pool honest entries_stay writers_stay = record {
   pool = pool;
@@ -189,25 +196,25 @@ begins_none : (b : Bool) (id : ℕ) (other : ℕ) (new old : Numbers) → b ≡ 
 begins_none b id other new old same = rw same refl
 
 -- a tenure at another name of its block
-pub at_block : {id other : ℕ} {command : Command} {answer : Answer} {SaysOf : Cell → Type 0} {cells : Cells} {Stood StandsFor : Bool → Cells → Type 0} {past since : ℕ → Files → Type 0} →
+pub at_block : {id other : ℕ} {command : Command} {answer : Answer} {SaysOf : Cell → Type 0} {cells : Cells} {Stood StandsFor : Knowledge → Cells → Type 0} {past since : ℕ → Files → Type 0} →
     id ≡ other → TakesStep id command answer SaysOf cells Stood StandsFor past since → TakesStep other command answer SaysOf cells Stood StandsFor past since
 at_block {id} {other} {command} {answer} {SaysOf} {cells} {Stood} {StandsFor} {past} {since} same step =
     subst (λ n. TakesStep n command answer SaysOf cells Stood StandsFor past since) same step
 
-pub at_block_steps : {id other : ℕ} {command : Command} {answer : Answer} {SaysOf : Cell → Type 0} {cells : Cells} {Stood StandsFor : Bool → Cells → Type 0} →
+pub at_block_steps : {id other : ℕ} {command : Command} {answer : Answer} {SaysOf : Cell → Type 0} {cells : Cells} {Stood StandsFor : Knowledge → Cells → Type 0} →
     id ≡ other → StepsTo id command answer SaysOf cells Stood StandsFor → StepsTo other command answer SaysOf cells Stood StandsFor
 at_block_steps {id} {other} {command} {answer} {SaysOf} {cells} {Stood} {StandsFor} same step = subst (λ n. StepsTo n command answer SaysOf cells Stood StandsFor) same step
 
 -- what a crash can leave: of a tenure that takes a step, of a quiet one, and of none
-pub crash_takes : {id : ℕ} {command : Command} {answer : Answer} {SaysOf : Cell → Type 0} {cells : Cells} {Stood StandsFor : Bool → Cells → Type 0} {past since : ℕ → Files → Type 0} →
-    (step : TakesStep id command answer SaysOf cells Stood StandsFor past since) → CrashSafe cells (with_cell cells id step.to.cell) (Stood true) (StandsFor true) past since
-crash_takes step = record { images = step.images; sound = step.to.stands true; sound_images = step.sound_images; whole = step.whole_images }
+pub crash_takes : {id : ℕ} {command : Command} {answer : Answer} {SaysOf : Cell → Type 0} {cells : Cells} {Stood StandsFor : Knowledge → Cells → Type 0} {past since : ℕ → Files → Type 0} →
+    (step : TakesStep id command answer SaysOf cells Stood StandsFor past since) → CrashSafe cells (with_cell cells id step.to.cell) (Stood matching) (StandsFor matching) past since
+crash_takes step = record { images = step.images; sound = step.to.stands matching; sound_images = step.sound_images; whole = step.whole_images }
 
-pub crash_rests : {cells : Cells} {Stood StandsFor : Bool → Cells → Type 0} {past since : ℕ → Files → Type 0} → IsQuiet cells Stood StandsFor past since →
-    CrashSafe cells cells (Stood true) (StandsFor true) past since
+pub crash_rests : {cells : Cells} {Stood StandsFor : Knowledge → Cells → Type 0} {past since : ℕ → Files → Type 0} → IsQuiet cells Stood StandsFor past since →
+    CrashSafe cells cells (Stood matching) (StandsFor matching) past since
 crash_rests quiet = record {
   images = λ t image s. elim (quiet.images t image s) [ inl earlier ↦ inl earlier | inr allows ↦ inr (inl allows) ];
-  sound = quiet.stands true;
+  sound = quiet.stands matching;
   sound_images = quiet.sound_images;
   whole = quiet.whole_images;
 }
@@ -221,11 +228,11 @@ crash_only sound = record { images = λ t image s. inl s; sound = sound; sound_i
 module _ {Faulty : ℕ → ℕ → Type 0} {told : Option (List World)} {old : RunState} {before after : Mark} {id : ℕ} {command : Command} {reply : Reply} {StandsFor : RunState → Type 0}
     {Sound SoundNow : Cells → Type 0} {past since : ℕ → Files → Type 0} where
   -- a command that leaves the state as it was
-  pub carried_same : StandsFor old → CrashSafe old.cells old.cells Sound SoundNow past since → (answer : Answer) → ((trust : Trust) → IsKnown (Sound old.cells) trust told → Says trust answer reply) →
+  pub carried_same : StandsFor old → CrashSafe old.cells old.cells Sound SoundNow past since → (answer : Answer) → ((trust : Trust) → IsKnown (Sound old.cells) trust told → Says trust (old.metas id) answer reply) →
       Step unlimited (old.cells id) command answer (old.cells id) → (answer ≡ failed → FailsBy Faulty before after (old.writers id) (old.cells id) command (old.cells id)) →
-      (answer ≡ memory → old.cells id ≡ waiting → before.next_number < after.next_number) → begins_writer command answer ≡ false →
+      (answer ≡ memory → old.cells id ≡ waiting → before.next_number < after.next_number) → begins_writer command answer ≡ false → MetasAfter command answer old.metas id (old.cells id) old.metas →
       CarriesOut Faulty told old before id command reply after StandsFor Sound SoundNow past since
-  carried_same stands crash answer says step fault lack begins = record {
+  carried_same stands crash answer says step fault lack begins metas = record {
     new = old;
     stands = stands;
     step = λ trust known. record {
@@ -234,19 +241,20 @@ module _ {Faulty : ℕ → ℕ → Type 0} {told : Option (List World)} {old : R
       cells = record { own = step; others = λ other apart. refl };
       fault = fault;
       lack = lack;
+      metas = metas;
       writers = λ other. begins_none (begins_writer command answer) id other (given before after) (old.writers other) begins;
     };
     crash = crash;
   }
 
   -- a command that changes its block's cell
-  pub carried : (cell : Cell) (numbers : ℕ → Numbers) → StandsFor (record { cells = with_cell old.cells id cell; writers = numbers }) →
-      CrashSafe old.cells (with_cell old.cells id cell) Sound SoundNow past since → (answer : Answer) → ((trust : Trust) → IsKnown (Sound old.cells) trust told → Says trust answer reply) → Step unlimited (old.cells id) command answer cell →
+  pub carried : (cell : Cell) (metas : Metas) (numbers : ℕ → Numbers) → StandsFor (record { cells = with_cell old.cells id cell; metas = metas; writers = numbers }) →
+      CrashSafe old.cells (with_cell old.cells id cell) Sound SoundNow past since → (answer : Answer) → ((trust : Trust) → IsKnown (Sound old.cells) trust told → Says trust (old.metas id) answer reply) → Step unlimited (old.cells id) command answer cell →
       (answer ≡ failed → FailsBy Faulty before after (old.writers id) (old.cells id) command cell) → (answer ≡ memory → cell ≡ waiting → before.next_number < after.next_number) →
-      ((other : ℕ) → numbers other ≡ (if begins_writer command answer && other == id then given before after else old.writers other)) →
+      ((other : ℕ) → numbers other ≡ (if begins_writer command answer && other == id then given before after else old.writers other)) → MetasAfter command answer old.metas id cell metas →
       CarriesOut Faulty told old before id command reply after StandsFor Sound SoundNow past since
-  carried cell numbers stands crash answer says step fault lack begins = record {
-    new = record { cells = with_cell old.cells id cell; writers = numbers };
+  carried cell metas numbers stands crash answer says step fault lack begins learns = record {
+    new = record { cells = with_cell old.cells id cell; metas = metas; writers = numbers };
     stands = stands;
     step = λ trust known. record {
       answer = answer;
@@ -257,16 +265,24 @@ module _ {Faulty : ℕ → ℕ → Type 0} {told : Option (List World)} {old : R
       };
       fault = λ is. subst (FailsBy Faulty before after (old.writers id) (old.cells id) command) (sym (with_cell-here old.cells id cell)) (fault is);
       lack = λ is waits. lack is (sym (with_cell-here old.cells id cell) ∙ waits);
+      metas = subst (λ c. MetasAfter command answer old.metas id c metas) (sym (with_cell-here old.cells id cell)) learns;
       writers = begins;
     };
     crash = crash;
   }
 
-  -- a command that begins no writer
-  pub carried_on : (cell : Cell) → StandsFor (record { cells = with_cell old.cells id cell; writers = old.writers }) →
-      CrashSafe old.cells (with_cell old.cells id cell) Sound SoundNow past since → (answer : Answer) → ((trust : Trust) → IsKnown (Sound old.cells) trust told → Says trust answer reply) → Step unlimited (old.cells id) command answer cell →
+  -- a command that begins no writer, and after which more is known of meta files
+  pub carried_learning : (cell : Cell) (metas : Metas) → StandsFor (record { cells = with_cell old.cells id cell; metas = metas; writers = old.writers }) →
+      CrashSafe old.cells (with_cell old.cells id cell) Sound SoundNow past since → (answer : Answer) → ((trust : Trust) → IsKnown (Sound old.cells) trust told → Says trust (old.metas id) answer reply) → Step unlimited (old.cells id) command answer cell →
       (answer ≡ failed → FailsBy Faulty before after (old.writers id) (old.cells id) command cell) → (answer ≡ memory → cell ≡ waiting → before.next_number < after.next_number) →
-      begins_writer command answer ≡ false → CarriesOut Faulty told old before id command reply after StandsFor Sound SoundNow past since
-  carried_on cell stands crash answer says step fault lack begins =
-      carried cell old.writers stands crash answer says step fault lack
-      (λ other. begins_none (begins_writer command answer) id other (given before after) (old.writers other) begins)
+      begins_writer command answer ≡ false → MetasAfter command answer old.metas id cell metas → CarriesOut Faulty told old before id command reply after StandsFor Sound SoundNow past since
+  carried_learning cell metas stands crash answer says step fault lack begins learns =
+      carried cell metas old.writers stands crash answer says step fault lack
+      (λ other. begins_none (begins_writer command answer) id other (given before after) (old.writers other) begins) learns
+
+  -- a command that begins no writer
+  pub carried_on : (cell : Cell) → StandsFor (record { cells = with_cell old.cells id cell; metas = old.metas; writers = old.writers }) →
+      CrashSafe old.cells (with_cell old.cells id cell) Sound SoundNow past since → (answer : Answer) → ((trust : Trust) → IsKnown (Sound old.cells) trust told → Says trust (old.metas id) answer reply) → Step unlimited (old.cells id) command answer cell →
+      (answer ≡ failed → FailsBy Faulty before after (old.writers id) (old.cells id) command cell) → (answer ≡ memory → cell ≡ waiting → before.next_number < after.next_number) →
+      begins_writer command answer ≡ false → MetasAfter command answer old.metas id cell old.metas → CarriesOut Faulty told old before id command reply after StandsFor Sound SoundNow past since
+  carried_on cell = carried_learning cell old.metas

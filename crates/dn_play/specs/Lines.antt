@@ -22,6 +22,7 @@ CellsReopened sound_disks old new = (id : ℕ) → IsBlockId id → Reopened (ol
 pub record Reopens (trust : Trust) (old : RunState) (reply : Reply) (new : RunState) : Type 0 where
   pub done : reply ≡ Done
   pub cells : CellsReopened trust old.cells new.cells
+  pub metas : new.metas ≡ old.metas
   pub writers : (id : ℕ) → new.writers id ≡ old.writers id
 
 -- what each line does that is carried out

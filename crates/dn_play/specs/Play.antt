@@ -7,7 +7,7 @@ use Rattle.volume_layout.specs.Paths.{IsBlockId}
 use Rattle.map_model.specs.Copies.{block_files, OneWhole}
 use Rattle.map_model.specs.Allows.{AllowsImage}
 use Rattle.map_model.specs.Openings.{MakesCells, ReadsAlike}
-use Rattle.map_model.specs.Sound.{IsSound}
+use Rattle.map_model.specs.Sound.{exactly, Fits, IsSoundBy, IsSound}
 use Rattle.pool_open.specs.Outcome.{HoldsImage, HasTwoMetas, IsOpened}
 use Rattle.script_lang.specs.declared.reply.Reply.{Reply}
 use Rattle.dn_play.specs.declared.ending.Ending.{Ending}
@@ -47,7 +47,7 @@ pub record StopsUnopened (since : ℕ → Files → Type 0) (course : Course) (e
   pub sound : (start : Files) → HoldsImage course.told start → IsSound start → (image : Files) → since course.entry.moment image → IsSound image
 
 -- The opening was done. Then lines of the script were carried out, in order, whatever is known of the disks. Where the disks
--- tell one image at the entry, the first cells are what an opening makes of it. The cells allow what a crash can leave: those
+-- tell one image at the entry, the first cells are what an opening makes of it, and the meta files those of its copies. The cells allow what a crash can leave: those
 -- after the last line what it can leave at the exit, and those after a line, or a later one, what it could leave since it. Of
 -- each block that has a copy in an image that a crash could leave since the opening's end, one whole copy stands alone. Where the
 -- image at the entry is sound, so is each that a crash could leave since then. The run may end at an opening again that isn't
@@ -59,6 +59,7 @@ pub record RunsLines (Faulty : ℕ → ℕ → Type 0) (since : ℕ → Files �
   pub opened : (id : ℕ) → IsBlockId id → IsOpened (first.cells id)
   pub one_meta : (start : Files) → HoldsImage course.told start → HasTwoMetas start → ⊥
   pub from_start : (start : Files) → HoldsImage course.told start → MakesCells (block_files start) first.cells
+  pub metas_from_start : (start : Files) → HoldsImage course.told start → IsSoundBy (Fits (exactly first.metas)) start
   pub counts : IsLater course.entry mark
   pub follows : (trust : Trust) → IsKnown (BeginsSound course.told) trust course.told → Follows trust Faulty first mark turns
   pub at_exit : EndsAt (NextReopens course.input (turn_lines turns)) ending (last_mark mark turns) course.exit

@@ -1,5 +1,5 @@
 -- When a session stands for the state of a run.
-use Rattle.std.specs.Prelude.{ℕ, ◌≡◌, ◌-◌, Bool, true, false, List, Option, None, MatchOption, option_map, ⊤, IsSome, nat_eq, ◌⊎◌}
+use Rattle.std.specs.Prelude.{ℕ, ◌≡◌, ◌-◌, Bool, false, List, Option, None, MatchOption, option_map, ⊤, IsSome, nat_eq, ◌⊎◌}
 use Rattle.disk_model.specs.declared.disks.PoolDisks.{Ghosts}
 use Rattle.disk_model.specs.declared.disks.Draft as drafts
 use Rattle.disk_model.specs.declared.disks.SealedDraft as sealed
@@ -13,6 +13,7 @@ use Rattle.disk_model.specs.Told.{CanLeave}
 use Rattle.map_model.specs.Allows.{AllowsImage}
 use Rattle.map_model.specs.Copies.{OneWhole}
 use Rattle.map_model.specs.Stands.{Leftover}
+use Rattle.map_model.specs.Sound.{matching, exactly}
 use Rattle.map_model.specs.Cells.{Cell, Cells, absent, final, growing, unsure, waiting}
 use Rattle.map_model.specs.Steps.{Command}
 use Rattle.pool_state.specs.declared.entry.Entry.{Entry}
@@ -48,9 +49,9 @@ pub record OpenWriter (told : Option (List World)) (entries : ℕ → Option Ent
   pub block_given : GivenBetween numbers.first numbers.last stands.block_number
   pub meta_given : GivenBetween numbers.first numbers.last stands.meta_number
 
--- disks, entries and open writers stand for the state of a run
+-- disks, entries and open writers stand for the state of a run: its cells, of which these are the meta files
 pub record Standing (told : Option (List World)) (volumes : ℕ) (entries : ℕ → Option Entry) (found : ℕ → List Leftover) (writers : ℕ → Option Writer) (state : RunState) : Type 0 where
-  pub pool : PoolStands told volumes entries found false state.cells
+  pub pool : PoolStands told volumes entries found (exactly state.metas) state.cells
   pub writer : (id : ℕ) → IsBlockId id → MatchOption (writers id) (NotGrowing (state.cells id)) (OpenWriter told entries id (state.cells id) (state.writers id))
 
 -- what must be known of the disks: that they tell their content, and that it's sound
@@ -75,7 +76,7 @@ module _ {D S T R : Type 0} {g : Ghosts D S T R} {d : drafts.Ghosts T S} {s : se
 
   -- the pool of a session stands for cells, with meta files that match
   abbrev pub SoundFor : Session D S T R g d s r → Cells → Type 0
-  SoundFor session cells = Stands session.pool true cells
+  SoundFor session cells = Stands session.pool matching cells
 
   -- a session stands for the state of a run
   abbrev pub SessionStands : Session D S T R g d s r → RunState → Type 0

@@ -3,15 +3,18 @@ use Rattle.std.specs.Prelude.{ℕ, ◌≤◌, List, [], ◌∷◌, map}
 use Rattle.script_lang.specs.declared.Line.{Line}
 use Rattle.script_lang.specs.declared.reply.Reply.{Reply}
 use Rattle.map_model.specs.Cells.{Cells}
+use Rattle.map_model.specs.Sound.{Metas}
 
 -- numbers of drafts and readers, from the first on and below the last
 pub record Numbers : Type 0 where
   pub first : ℕ
   pub last : ℕ
 
--- What a run knows: the cells of the pool, and of each block that grows the numbers that the command which began its writer gave.
+-- What a run knows: the cells of the pool, the meta files of its replicas, and of each block that grows the numbers that the
+-- command which began its writer gave.
 pub record RunState : Type 0 where
   pub cells : Cells
+  pub metas : Metas
   pub writers : ℕ → Numbers
 
 -- what the pool's disks have counted: their faults, the number of their next draft or reader, and their moment

@@ -184,7 +184,7 @@ alone_partly (Some files) was now partly =
     ]
 
 -- and copies that matched their metas still do
-pub sound_partly : (M : List ℕ → List ℕ → Type 0) (found : Option FoundFiles) (was now : View) → Partly found was was → Partly found was now →
+pub sound_partly : (M : List ℕ → Replica → Type 0) (found : Option FoundFiles) (was now : View) → Partly found was was → Partly found was now →
     HasSoundCopies M (files_in was) → HasSoundCopies M (files_in now)
 sound_partly M found was now own partly sound spot replica greatest =
     let bytes = slot_bytes (was 1 block) in
@@ -194,12 +194,12 @@ sound_partly M found was now own partly sound spot replica greatest =
     let here : spot.vol ≡ 1 = partly.on_one spot.vol block (was_standing found was now partly spot.vol block standing) in
     let there : before.0.vol ≡ 1 = own.on_one before.0.vol block (bytes-standing (was before.0.vol block) (ap is_some before.1.copy.block)) in
     let kept : now 1 (meta replica.stamp) ≡ was 1 (meta replica.stamp) = partly.meta_kept (block_found found was now partly spot.vol standing) replica.stamp in
-    let matched : IsSomeAnd (bytes_in (was before.0.vol (meta replica.stamp))) (λ content. M content replica.bytes) = sound before.0 replica before.1 in
-    let on_one : IsSomeAnd (bytes_in (was 1 (meta replica.stamp))) (λ content. M content replica.bytes) =
-    subst (λ v. IsSomeAnd (bytes_in (was v (meta replica.stamp))) (λ content. M content replica.bytes)) there matched in
-    let still : IsSomeAnd (bytes_in (now 1 (meta replica.stamp))) (λ content. M content replica.bytes) =
-    subst (λ (slot : Slot). IsSomeAnd (bytes_in slot) (λ content. M content replica.bytes)) (sym kept) on_one in
-    subst (λ v. IsSomeAnd (bytes_in (now v (meta replica.stamp))) (λ content. M content replica.bytes)) (sym here) still
+    let matched : IsSomeAnd (bytes_in (was before.0.vol (meta replica.stamp))) (λ content. M content replica) = sound before.0 replica before.1 in
+    let on_one : IsSomeAnd (bytes_in (was 1 (meta replica.stamp))) (λ content. M content replica) =
+    subst (λ v. IsSomeAnd (bytes_in (was v (meta replica.stamp))) (λ content. M content replica)) there matched in
+    let still : IsSomeAnd (bytes_in (now 1 (meta replica.stamp))) (λ content. M content replica) =
+    subst (λ (slot : Slot). IsSomeAnd (bytes_in slot) (λ content. M content replica)) (sym kept) on_one in
+    subst (λ v. IsSomeAnd (bytes_in (now v (meta replica.stamp))) (λ content. M content replica)) (sym here) still
 
 -- ---- the cell
 
@@ -275,7 +275,7 @@ module _ (told : Option (List World)) (id : ℕ) (entry : Option Entry) (left : 
 
 -- ---- what stands
 
-module _ (M : List ℕ → List ℕ → Type 0) (told : Option (List World)) (id : ℕ) (entry : Option Entry) (left : List Leftover) (bytes : List ℕ) (was now : View) where
+module _ (M : List ℕ → Replica → Type 0) (told : Option (List World)) (id : ℕ) (entry : Option Entry) (left : List Leftover) (bytes : List ℕ) (was now : View) where
   abbrev StandsHere : Option Entry → List Leftover → Type 0
   StandsHere e l = BlockStands M now (block_books e l) (cell_of bytes e)
 
@@ -285,7 +285,7 @@ module _ (M : List ℕ → List ℕ → Type 0) (told : Option (List World)) (id
   module _ (files : FoundFiles) (partly : Partly (Some files) was now) (leaves : (file : File) → IsTrue (is_standing (now 1 file)) → Left files file)
       (stamps : (stamp : ℕ) → Contains files.metas.items stamp → IsStamp stamp) (writing_stamps : (stamp : ℕ) → Contains files.writing_metas.items stamp → IsStamp stamp)
       (bytes_are : bytes ≡ slot_bytes (was 1 block)) (len_is : (len : ℕ) → files.block ≡ true → IsSizeOf told (block_path id) len → len ≡ length bytes)
-      (matches : (made : MakesFinal files) → M (slot_bytes (was 1 (meta made.stamp))) bytes) where
+      (matches : (made : MakesFinal files) → M (slot_bytes (was 1 (meta made.stamp))) (replica_of made.stamp bytes)) where
     at_one : (vol : ℕ) (file : File) → IsTrue (is_standing (now vol file)) → (vol ≡ 1) × Left files file
     at_one vol file there =
         let vol_is = partly.on_one vol file (was_standing (Some files) was now partly vol file there) in

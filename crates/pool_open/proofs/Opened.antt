@@ -191,10 +191,10 @@ module _ (survey : Survey) (table : IsTable survey) where
         left_some temporary_block there = no_temporary temporary_block refl there
         left_some (temporary_meta stamp) there = no_temporary (temporary_meta stamp) refl there
 
-      module _ (M : List ℕ → List ℕ → Type 0) (told : Option (List World)) (entry : Option Entry) (left : List Leftover) (bytes : List ℕ)
+      module _ (M : List ℕ → Replica → Type 0) (told : Option (List World)) (entry : Option Entry) (left : List Leftover) (bytes : List ℕ)
           (bytes_are : bytes ≡ slot_bytes (view_of was id 1 block))
           (len_is : (len : ℕ) → has_block (found_of survey.blocks id) ≡ true → IsSizeOf told (block_path id) len → len ≡ length bytes)
-          (matches : (files : FoundFiles) → found_of survey.blocks id ≡ Some files → (made : MakesFinal files) → M (slot_bytes (view_of was id 1 (meta made.stamp))) bytes) where
+          (matches : (files : FoundFiles) → found_of survey.blocks id ≡ Some files → (made : MakesFinal files) → M (slot_bytes (view_of was id 1 (meta made.stamp))) (replica_of made.stamp bytes)) where
         stands_by : (found : Option FoundFiles) → found_of survey.blocks id ≡ found → SaysFound told id found entry left →
             BlockStands M (view_of now id) (block_books entry left) (cell_of bytes entry)
         stands_by None is says = none_stands M told id entry left bytes (view_of was id) (view_of now id)

@@ -1,5 +1,6 @@
 -- An opening, from what its calls gave.
-use Rattle.std.proofs.Common.{◌≡◌, ◌≢◌, ◌⊎◌, inl, inr, ℕ, Bool, true, false, List, [], ◌∷◌, Option, None, Some, Contains, length, replicate, refl, ap, sym, ◌∙◌, subst, arith, IsTrue, IsSome, IfSome, option_map}
+use Rattle.std.proofs.Common.{◌≡◌, ◌≢◌, ◌⊎◌, inl, inr, ℕ, List, [], ◌∷◌, Option, None, Some, Contains, length, replicate, refl, ap, sym, ◌∙◌, subst, arith, IsTrue, IsSome, IfSome, option_map}
+use mathlib.Core.Path.{fun_ext}
 use Rattle.std.specs.Prelude.{IsSomeAnd, is_some}
 use Rattle.std.proofs.lemmas.Bool.{false≢true}
 use Rattle.std.proofs.lemmas.List.{length-replicate}
@@ -12,10 +13,9 @@ use Rattle.disk_model.proofs.Laws.{from_done, some_world, only_one, told_list, i
 use Rattle.volume_layout.specs.Paths.{IsBlockId, block_path}
 use Rattle.map_model.specs.World.{DraftsAside}
 use Rattle.map_model.specs.Cells.{Replica, Cell, Cells}
-use Rattle.map_model.specs.Checksums.{Matches}
 use Rattle.map_model.specs.Copies.{Spot, BlockFiles, IsCopy, IsAlone, IsGreatestCopy, ReadsAs, OneWhole}
 use Rattle.map_model.specs.Openings.{shown_files, MakesCell, ReadsAlike}
-use Rattle.map_model.specs.Sound.{MatchesIf, HasSoundCopies, IsSound}
+use Rattle.map_model.specs.Sound.{Metas, Knowledge, matching, exactly, Fits, HasSoundCopies, IsSound}
 use Rattle.map_model.specs.Slots.{block, meta, Slot, empty, holds, drafted, is_standing, bytes_in, slot_of, view_of, files_in}
 use Rattle.map_model.specs.Stands.{Leftover, Each, Agrees}
 use Rattle.map_model.proofs.Places.{absent_empty, no_number}
@@ -23,6 +23,7 @@ use Rattle.map_model.proofs.SlotLemmas.{bytes-standing}
 use Rattle.map_model.proofs.Bridge.{view_slot, view_absent, image_files}
 use Rattle.map_model.proofs.Aside.{aside_no_draft}
 use Rattle.map_model.proofs.OneReading.{ReadsAs-unique}
+use Rattle.map_model.proofs.Readings.{KeepsStamp-meta}
 use Rattle.pool_state.specs.declared.entry.Entry.{Entry}
 use Rattle.pool_state.specs.declared.entry.State.{State}
 use Rattle.pool_state.specs.declared.entry.State.TheVariants.{Finalised, Writing as InWriting, Unsure, Waiting as InWaiting}
@@ -37,7 +38,7 @@ use Rattle.pool_open.specs.declared.outcome.Outcome.{Outcome}
 use Rattle.pool_open.specs.Plan.{outcome_of, kept_files}
 use Rattle.pool_open.specs.Found.{entry_of, IsSizeOf, IsFinalEntry, IsWaitingEntry, SaysOutcome, SaysFound}
 use Rattle.pool_open.specs.Clearing.{Clears, AreClear, ComesCleared, LeftCleared}
-use Rattle.pool_open.specs.Outcome.{HasSoundFiles, IsOpened, ReadsBack, Opens}
+use Rattle.pool_open.specs.Outcome.{HasFiles, HasSoundFiles, IsOpened, ReadsBack, Opens}
 use Rattle.pool_open.proofs.Removals.{clears_none}
 use Rattle.pool_open.proofs.Shown.{shown_view, world_reads}
 use Rattle.pool_open.proofs.Slots.{replica_of, each_kept}
@@ -49,6 +50,12 @@ abbrev pub bytes_told : Option (List World) → ℕ → ℕ → List ℕ
 bytes_told None id len = replicate len 0
 bytes_told (Some []) id len = replicate len 0
 bytes_told (Some (world ∷ worlds)) id len = slot_bytes (view_of world id 1 block)
+
+-- those of a meta file
+abbrev pub meta_told : Option (List World) → ℕ → ℕ → List ℕ
+meta_told None id stamp = []
+meta_told (Some []) id stamp = []
+meta_told (Some (world ∷ worlds)) id stamp = slot_bytes (view_of world id 1 (meta stamp))
 
 abbrev pub entry_len : Option Entry → ℕ
 entry_len None = 0
@@ -132,6 +139,11 @@ matched_slot empty P and = absurd and
 matched_slot (holds bytes) P and = and
 matched_slot (drafted number) P and = absurd and
 
+some_slot : (slot : Slot) → IsSome (bytes_in slot) → IsSomeAnd (bytes_in slot) (λ content. content ≡ slot_bytes slot)
+some_slot empty has = absurd (false≢true has)
+some_slot (holds bytes) has = refl
+some_slot (drafted number) has = absurd (false≢true has)
+
 -- ---- one world that was surveyed
 
 module _ (survey : Survey) (table : IsTable survey) (was : World) (surveyed : IsSurveyed survey was) where
@@ -153,9 +165,9 @@ module _ (survey : Survey) (table : IsTable survey) (was : World) (surveyed : Is
       let found = found_of survey.blocks id in
       let own = partly survey table was was surveyed (clears_none (plan_of survey) was) id valid in
       let as_now = partly survey table was now surveyed clears id valid in
-      let before : HasSoundCopies Matches (files_in (view_of was id)) = subst (λ (files : BlockFiles). HasSoundCopies Matches files) (shown_view was id surveyed.aside) (matching id valid) in
-      subst (λ (files : BlockFiles). HasSoundCopies Matches files) (sym (image_files now image id (clears.aside surveyed.aside) leaves))
-      (sound_partly Matches found (view_of was id) (view_of now id) own as_now before)
+      let before : HasSoundCopies (Fits matching id) (files_in (view_of was id)) = subst (λ (files : BlockFiles). HasSoundCopies (Fits matching id) files) (shown_view was id surveyed.aside) (matching id valid) in
+      subst (λ (files : BlockFiles). HasSoundCopies (Fits matching id) files) (sym (image_files now image id (clears.aside surveyed.aside) leaves))
+      (sound_partly (Fits matching id) found (view_of was id) (view_of now id) own as_now before)
 
   -- and has one whole copy of each block at most
   pub cleared_whole : (now : World) (image : Files) → Clears (plan_of survey) was now → Leaves now image → OneWhole image
@@ -191,22 +203,33 @@ module _ (survey : Survey) (table : IsTable survey) (was : World) (surveyed : Is
           | inr drafts ↦ absurd (false≢true (sym none ∙ drafts))
         ]
 
-    -- the meta of a replica matches it, where the world's copies match
-    pub sound_here : (files : FoundFiles) → found_of survey.blocks id ≡ Some files → (made : MakesFinal files) → HasSoundCopies Matches (shown_files was id) →
-        Matches (slot_bytes (view_of was id 1 (meta made.stamp))) (slot_bytes (view_of was id 1 block))
-    sound_here files is made sound =
+    -- what is known of the meta of a replica, by what is of the world's copies
+    pub sound_here : (M : List ℕ → Replica → Type 0) (files : FoundFiles) → found_of survey.blocks id ≡ Some files → (made : MakesFinal files) → HasSoundCopies M (shown_files was id) →
+        M (slot_bytes (view_of was id 1 (meta made.stamp))) (replica_of made.stamp (slot_bytes (view_of was id 1 block)))
+    sound_here M files is made sound =
         let view = view_of was id in
         let bytes = slot_bytes (view 1 block) in
-        let copies : HasSoundCopies Matches (files_in view) = subst (λ (f : BlockFiles). HasSoundCopies Matches f) (shown_view was id surveyed.aside) sound in
+        let copies : HasSoundCopies M (files_in view) = subst (λ (f : BlockFiles). HasSoundCopies M f) (shown_view was id surveyed.aside) sound in
         let read : ReadsAs (files_in view) (read_by (outcome_of files) bytes) =
         subst (λ (f : Option FoundFiles). ReadsAs (files_in view) (read_of f bytes)) is (reads_partly (found_of survey.blocks id) view view own) in
         let reads : ReadsAs (files_in view) (Some (replica_of made.stamp bytes)) = subst (λ (o : Outcome). ReadsAs (files_in view) (read_by o bytes)) made.is read in
         let spot : Spot = reads.0 in
         let greatest : IsGreatestCopy (files_in view) spot (replica_of made.stamp bytes) = reads.1 in
         let here : spot.vol ≡ 1 = own.on_one spot.vol block (bytes-standing (view spot.vol block) (ap is_some greatest.copy.block)) in
-        let matched : IsSomeAnd (bytes_in (view spot.vol (meta made.stamp))) (λ content. Matches content bytes) = copies spot (replica_of made.stamp bytes) greatest in
-        matched_slot (view 1 (meta made.stamp)) (λ content. Matches content bytes)
-        (subst (λ v. IsSomeAnd (bytes_in (view v (meta made.stamp))) (λ content. Matches content bytes)) here matched)
+        let matched : IsSomeAnd (bytes_in (view spot.vol (meta made.stamp))) (λ content. M content (replica_of made.stamp bytes)) = copies spot (replica_of made.stamp bytes) greatest in
+        matched_slot (view 1 (meta made.stamp)) (λ content. M content (replica_of made.stamp bytes))
+        (subst (λ v. IsSomeAnd (bytes_in (view v (meta made.stamp))) (λ content. M content (replica_of made.stamp bytes))) here matched)
+
+    -- the meta of each copy is that on the volume
+    pub meta_here : HasSoundCopies (λ content replica. content ≡ slot_bytes (view_of was id 1 (meta replica.stamp))) (shown_files was id)
+    meta_here =
+        let view = view_of was id in
+        subst (λ (f : BlockFiles). HasSoundCopies (λ content replica. content ≡ slot_bytes (view 1 (meta replica.stamp))) f) (sym (shown_view was id surveyed.aside))
+        (λ spot replica greatest.
+        let here : spot.vol ≡ 1 = own.on_one spot.vol block (bytes-standing (view spot.vol block) (ap is_some greatest.copy.block)) in
+        let has = KeepsStamp-meta (files_in view) spot replica.stamp greatest.copy.stamp in
+        subst (λ v. IsSomeAnd (bytes_in (view v (meta replica.stamp))) (λ content. content ≡ slot_bytes (view 1 (meta replica.stamp)))) (sym here)
+        (some_slot (view 1 (meta replica.stamp)) (subst (λ v. IsSome (bytes_in (view v (meta replica.stamp)))) here has)))
 
 -- ---- the opening
 
@@ -273,16 +296,28 @@ module _ (survey : Survey) (before first second after : Option (List World)) (vo
   fits id valid = books_fit second volumes id opening.one (entries id) (found id) (cell_bytes id) (found_of survey.blocks id)
       (λ len at there size. len_by first refl id valid len at there size) (opening.says id)
 
-  matches_by : (sound : Bool) → (IsTrue sound → InEachWorld before HasSoundFiles) → (was : World) → IsWorldOf second was → (id : ℕ) → IsBlockId id →
-      (files : FoundFiles) → found_of survey.blocks id ≡ Some files → (made : MakesFinal files) →
-      MatchesIf sound (slot_bytes (view_of was id 1 (meta made.stamp))) (cell_bytes id)
-  matches_by false premise was is id valid files in_table made = tt
-  matches_by true premise was is id valid files in_table made =
-      subst (λ (b : List ℕ). Matches (slot_bytes (view_of was id 1 (meta made.stamp))) b) (sym (bytes_here was is id))
-      (sound_here survey opening.table was (surveyed was is) id valid files in_table made (premise refl was (in_before was is) id valid))
+  -- the meta files
+  abbrev pub metas_are : Metas
+  metas_are id stamp = meta_told first id stamp
 
-  pub pool_stands : (sound : Bool) → (IsTrue sound → InEachWorld before HasSoundFiles) → PoolStands after volumes entries found sound cells_are
-  pool_stands sound premise = record {
+  meta_told_here : (was : World) → IsWorldOf second was → (id stamp : ℕ) → metas_are id stamp ≡ slot_bytes (view_of was id 1 (meta stamp))
+  meta_told_here was is id stamp = ap (λ (told : Option (List World)). meta_told told id stamp) (first_is was (opening.remains was is))
+
+  metas_here : (was : World) → IsWorldOf second was → HasFiles (exactly metas_are) was
+  metas_here was is id valid =
+      let M : Metas → List ℕ → Replica → Type 0 = λ metas content replica. content ≡ metas id replica.stamp in
+      subst (λ (metas : Metas). HasSoundCopies (M metas) (shown_files was id)) (fun_ext (λ b. fun_ext (λ stamp. sym (meta_told_here was is b stamp))))
+      (meta_here survey opening.table was (surveyed was is) id valid)
+
+  fits_by : (known : Knowledge) → ((was : World) → IsWorldOf second was → HasFiles known was) → (was : World) → IsWorldOf second was → (id : ℕ) → IsBlockId id →
+      (files : FoundFiles) → found_of survey.blocks id ≡ Some files → (made : MakesFinal files) →
+      Fits known id (slot_bytes (view_of was id 1 (meta made.stamp))) (replica_of made.stamp (cell_bytes id))
+  fits_by known premise was is id valid files in_table made =
+      subst (λ (b : List ℕ). Fits known id (slot_bytes (view_of was id 1 (meta made.stamp))) (replica_of made.stamp b)) (sym (bytes_here was is id))
+      (sound_here survey opening.table was (surveyed was is) id valid (Fits known id) files in_table made (premise was is id valid))
+
+  pub pool_stands : (known : Knowledge) → ((was : World) → IsWorldOf second was → HasFiles known was) → PoolStands after volumes entries found known cells_are
+  pool_stands known premise = record {
     some_volume = omega (arith, opening.one);
     agrees = λ id valid. (fits id valid).agrees;
     placed = λ id valid. (fits id valid).placed;
@@ -290,9 +325,9 @@ module _ (survey : Survey) (before first second after : Option (List World)) (vo
     clean = λ id valid. (fits id valid).clean;
     blocks = λ now is id valid.
         let from = opening.comes now is in
-        block_stands survey opening.table from.0 now (surveyed from.0 from.1) from.2 id valid (opening.clear now is) (MatchesIf sound) second (entries id) (found id) (cell_bytes id)
+        block_stands survey opening.table from.0 now (surveyed from.0 from.1) from.2 id valid (opening.clear now is) (Fits known id) second (entries id) (found id) (cell_bytes id)
         (bytes_here from.0 from.1 id) (λ len there size. len_here from.0 from.1 id valid len there size)
-        (λ files in_table made. matches_by sound premise from.0 from.1 id valid files in_table made)
+        (λ files in_table made. fits_by known premise from.0 from.1 id valid files in_table made)
         (opening.says id);
     aside = λ now is. let from = opening.comes now is in from.2.aside (surveyed from.0 from.1).aside;
   }
@@ -317,7 +352,9 @@ module _ (survey : Survey) (before first second after : Option (List World)) (vo
       Opens before after volumes entries found past since
   opens past since images = record {
     cells = cells_are;
-    stands = pool_stands;
+    metas = metas_are;
+    stands = pool_stands (exactly metas_are) metas_here;
+    stands_by = λ known premise. pool_stands known (λ was is. premise was (in_before was is));
     opened = λ id valid. opened_by (cell_bytes id) (entries id);
     shown = λ tells.
         let was = some_told (opening.call.honest.0 tells) in
@@ -325,6 +362,7 @@ module _ (survey : Survey) (before first second after : Option (List World)) (vo
           world = was.0;
           is = in_before was.0 was.1;
           made = λ id valid. made_here was.0 was.1 id valid;
+          metas_are = metas_here was.0 was.1;
           images = λ t image left. elim (images t image left) [ inl earlier ↦ inl earlier | inr meanwhile ↦ inr (meanwhile_reads was.0 was.1 image meanwhile) ];
         };
     whole = λ image leaves.

@@ -10,9 +10,8 @@ use Rattle.disk_model.specs.Told.{Leaves}
 use Rattle.map_model.specs.World.{DraftsAside}
 use Rattle.map_model.specs.Cells.{Replica}
 use Rattle.map_model.specs.Copies.{Spot, BlockFiles, IsCopy, IsAlone, ReadsAs, files_of, block_files}
-use Rattle.map_model.specs.Checksums.{Matches}
 use Rattle.map_model.specs.Openings.{shown_files, ReadsAlike}
-use Rattle.map_model.specs.Sound.{HasSoundCopies}
+use Rattle.map_model.specs.Sound.{matching, Fits, HasSoundCopies}
 use Rattle.map_model.specs.Slots.{files_in, view_of}
 use Rattle.map_model.proofs.Bridge.{image_files}
 use Rattle.pool_open.specs.Outcome.{ReadsBack}
@@ -57,7 +56,7 @@ world_reads world image aside leaves id valid replica reads =
 pub world_reads_back : (world : World) (image : Files) → DraftsAside world → Leaves world image → ReadsBack world image
 world_reads_back world image aside leaves = record {
   alike = world_reads world image aside leaves;
-  sound = λ matching id valid. subst (λ (files : BlockFiles). HasSoundCopies Matches files) (shown_view world id aside ∙ sym (image_files world image id aside leaves)) (matching id valid);
+  sound = λ matching id valid. subst (λ (files : BlockFiles). HasSoundCopies (Fits matching id) files) (shown_view world id aside ∙ sym (image_files world image id aside leaves)) (matching id valid);
   whole = λ own id valid. subst (λ (files : BlockFiles). (spot : Spot) (replica : Replica) → IsCopy files spot replica → IsAlone files spot)
       (shown_view world id aside ∙ sym (image_files world image id aside leaves)) (own id valid);
 }

@@ -67,7 +67,7 @@ no_pair_alone view none spot replica copy = absurd (none spot.vol replica.stamp 
     (bytes-standing (view spot.vol (meta replica.stamp)) (KeepsStamp-meta (files_in view) spot replica.stamp copy.stamp)))
 
 -- nothing stands of an absent block
-pub absent_stands : (M : List ℕ → List ℕ → Type 0) (view : View) → ((vol : ℕ) (file : File) → IsTrue (is_standing (view vol file)) → ⊥) →
+pub absent_stands : (M : List ℕ → Replica → Type 0) (view : View) → ((vol : ℕ) (file : File) → IsTrue (is_standing (view vol file)) → ⊥) →
     BlockStands M view (block_books None []) absent
 absent_stands M view bare = record {
   agrees = tt;
@@ -82,8 +82,8 @@ absent_stands M view bare = record {
 }
 
 -- a replica's pair alone
-pub final_stands : (M : List ℕ → List ℕ → Type 0) (view : View) (id stamp len : ℕ) (bytes content : List ℕ) → OnePair view stamp bytes content →
-    M content bytes → IsStamp stamp → len ≡ length bytes →
+pub final_stands : (M : List ℕ → Replica → Type 0) (view : View) (id stamp len : ℕ) (bytes content : List ℕ) → OnePair view stamp bytes content →
+    M content (replica_of stamp bytes) → IsStamp stamp → len ≡ length bytes →
     ((vol : ℕ) (file : File) → IsTrue (is_standing (view vol file)) → (1 ≡ vol) × StateNames is_final stamp file) →
     ((vol : ℕ) (file : File) (number : ℕ) → IsFinalised file → view vol file ≡ drafted number → ⊥) →
     BlockStands M view (block_books (Some (entry_of id stamp len Finalised)) []) (final (replica_of stamp bytes))
@@ -107,7 +107,7 @@ no_names v f (inl names) = names
 no_names v f (inr names) = names
 
 -- a block whose files wait
-pub waiting_stands : (M : List ℕ → List ℕ → Type 0) (view : View) (id stamp len : ℕ) (left : List Leftover) → IsStamp stamp → HasNoPair view →
+pub waiting_stands : (M : List ℕ → Replica → Type 0) (view : View) (id stamp len : ℕ) (left : List Leftover) → IsStamp stamp → HasNoPair view →
     ((vol : ℕ) (file : File) → IsTrue (is_standing (view vol file)) → IsListed left vol file) →
     Each (LeftoverFits (Some (book_entry (entry_of id stamp len (InWaiting false false))))) left →
     ((vol : ℕ) (file : File) (number : ℕ) → IsFinalised file → view vol file ≡ drafted number → ⊥) →

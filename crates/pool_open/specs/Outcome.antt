@@ -1,5 +1,5 @@
 -- What an opening gives.
-use Rattle.std.specs.Prelude.{ℕ, ◌≡◌, ◌≢◌, ◌⊎◌, Bool, IsTrue, List, [], ◌∷◌, Option, Some, IsSome, Result, Ok, Err}
+use Rattle.std.specs.Prelude.{ℕ, ◌≡◌, ◌≢◌, ◌⊎◌, List, [], ◌∷◌, Option, Some, IsSome, Result, Ok, Err}
 use Rattle.volume_layout.specs.Paths.{IsBlockId, IsStamp, meta_path}
 use Rattle.disk_model.specs.declared.disks.PoolDisks.{Ghosts}
 use Rattle.disk_model.specs.declared.disks.Draft as drafts
@@ -10,10 +10,9 @@ use Rattle.disk_model.specs.Worlds.{World}
 use Rattle.disk_model.specs.Told.{IsWorldOf, InEachWorld, CanLeave}
 use Rattle.disk_model.specs.Moments.{AddsOnly}
 use Rattle.map_model.specs.Cells.{Replica, Cell, Cells, absent, final, waiting}
-use Rattle.map_model.specs.Checksums.{Matches}
 use Rattle.map_model.specs.Copies.{Spot, IsCopy, IsAlone, OneWhole}
 use Rattle.map_model.specs.Openings.{MakesCells, shown_files, ReadsAlike}
-use Rattle.map_model.specs.Sound.{HasSoundCopies, IsSound}
+use Rattle.map_model.specs.Sound.{Metas, Knowledge, matching, exactly, Fits, HasSoundCopies, IsSound}
 use Rattle.map_model.specs.Stands.{Leftover}
 use Rattle.pool_state.specs.declared.entry.Entry.{Entry}
 use Rattle.pool_state.specs.declared.pool_record.Pool.{Pool}
@@ -48,9 +47,13 @@ abbrev pub disks_of : {D S T R : Type 0} {g : Ghosts D S T R} {d : drafts.Ghosts
 disks_of (Ok pool) = pool.disks
 disks_of (Err fault) = fault_disks fault
 
+-- so much is known of the meta files of the copies that are read of a world
+abbrev pub HasFiles : Knowledge → World → Type 0
+HasFiles known world = (id : ℕ) → IsBlockId id → HasSoundCopies (Fits known id) (shown_files world id)
+
 -- the copies that are read of a world match their meta files
 abbrev pub HasSoundFiles : World → Type 0
-HasSoundFiles world = (id : ℕ) → IsBlockId id → HasSoundCopies Matches (shown_files world id)
+HasSoundFiles world = HasFiles matching world
 
 -- of each block of the world that has a copy one whole copy stands, and no other finalised file
 abbrev pub HasWholeFiles : World → Type 0
@@ -66,11 +69,13 @@ pub record ReadsBack (world : World) (image : Files) : Type 0 where
 abbrev pub ReadsAsOne : Option (List World) → Files → Type 0
 ReadsAsOne told image = (world : World) × IsWorldOf told world × ReadsBack world image
 
--- The cells are those of a world that was told: it was shown, and every image that a crash could leave since reads as it does.
-pub record Shows (told : Option (List World)) (cells : Cells) (past since : ℕ → Files → Type 0) : Type 0 where
+-- The cells are those of a world that was told, and so are the meta files: it was shown, and every image that a crash could leave
+-- since reads as it does.
+pub record Shows (told : Option (List World)) (cells : Cells) (metas : Metas) (past since : ℕ → Files → Type 0) : Type 0 where
   pub world : World
   pub is : IsWorldOf told world
   pub made : MakesCells (shown_files world) cells
+  pub metas_are : HasFiles (exactly metas) world
   pub images : AddsOnly past since (ReadsAlike (shown_files world))
 
 -- no writer is open, and nothing is in doubt
@@ -78,10 +83,13 @@ abbrev pub IsOpened : Cell → Type 0
 IsOpened cell = (cell ≡ absent) ⊎ (((replica : Replica) × (cell ≡ final replica)) ⊎ (cell ≡ waiting))
 
 -- AN OPENING: disks that told some worlds before it and tell others after it, and books which stand for cells. Where the disks
--- tell, those are the cells of one world; where its copies match their metas, so the pool knows. Each block has one whole copy at most.
+-- tell, those are the cells of one world, and the meta files are its own; what else is known of all worlds' meta files, is known
+-- by the pool. Each block has one whole copy at most.
 pub record Opens (before after : Option (List World)) (volumes : ℕ) (entries : ℕ → Option Entry) (found : ℕ → List Leftover) (past since : ℕ → Files → Type 0) : Type 0 where
   pub cells : Cells
-  pub stands : (sound : Bool) → (IsTrue sound → InEachWorld before HasSoundFiles) → PoolStands after volumes entries found sound cells
+  pub metas : Metas
+  pub stands : PoolStands after volumes entries found (exactly metas) cells
+  pub stands_by : (known : Knowledge) → InEachWorld before (HasFiles known) → PoolStands after volumes entries found known cells
   pub opened : (id : ℕ) → IsBlockId id → IsOpened (cells id)
-  pub shown : IsSome before → Shows before cells past since
+  pub shown : IsSome before → Shows before cells metas past since
   pub whole : (image : Files) → CanLeave after image → OneWhole image

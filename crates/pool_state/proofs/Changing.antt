@@ -3,10 +3,11 @@ use Rattle.std.proofs.Common.{◌≡◌, ◌≢◌, ◌≤◌, inl, inr, ℕ, �
 use Rattle.std.proofs.lemmas.Bool.{cases_eq, eq-eqb, ne_eqb, false≢true}
 use Rattle.disk_model.specs.Worlds.{World}
 use Rattle.volume_layout.specs.Paths.{IsBlockId}
-use Rattle.map_model.specs.Sound.{MatchesIf}
-use Rattle.map_model.specs.Cells.{Cell, Cells, absent}
+use Rattle.map_model.specs.Sound.{Knowledge, nothing, matching, exactly, Fits, learned}
+use Rattle.map_model.specs.Cells.{Replica, Cell, Cells, absent, growing}
 use Rattle.map_model.specs.Slots.{File, View, is_standing, view_of}
-use Rattle.map_model.specs.Stands.{Agrees, Leftover, Each, BlockStands}
+use Rattle.map_model.specs.Stands.{Agrees, Leftover, Each, BlockBooks, BlockStands}
+use Rattle.map_model.proofs.Knowing.{stands_by}
 use Rattle.map_model.specs.Tenures.{books_of}
 use Rattle.pool_state.specs.declared.entry.Entry.{Entry}
 use Rattle.pool_state.specs.declared.leftover.Leftover.{Leftover as FoundFile}
@@ -16,7 +17,7 @@ use Rattle.pool_state.specs.Stands.{with_cell, IsVolume, IsNotWaiting, PoolStand
 use Rattle.pool_state.specs.Reaching.{Reaches, ComesFrom}
 
 -- a view in which nothing stands
-bare_stands : (M : List ℕ → List ℕ → Type 0) (view : View) → ((vol : ℕ) (file : File) → IsFalse (is_standing (view vol file))) → BlockStands M view (books_of None [] None) absent
+bare_stands : (M : List ℕ → Replica → Type 0) (view : View) → ((vol : ℕ) (file : File) → IsFalse (is_standing (view vol file))) → BlockStands M view (books_of None [] None) absent
 bare_stands M view bare = record {
   agrees = tt;
   content = tt;
@@ -30,22 +31,22 @@ bare_stands M view bare = record {
 }
 
 -- disks without a file of a block, and books without an entry, stand for cells that are all absent
-pub empty_stands : (told : Option (List World)) (volumes : ℕ) (entries : ℕ → Option Entry) (found : ℕ → List Leftover) (sound : Bool) → 1 ≤ volumes → HoldNoBlock told →
-    ((id : ℕ) → entries id ≡ None) → ((id : ℕ) → found id ≡ []) → PoolStands told volumes entries found sound (λ id. absent)
-empty_stands told volumes entries found sound some_volume holds none no_files = record {
+pub empty_stands : (told : Option (List World)) (volumes : ℕ) (entries : ℕ → Option Entry) (found : ℕ → List Leftover) (known : Knowledge) → 1 ≤ volumes → HoldNoBlock told →
+    ((id : ℕ) → entries id ≡ None) → ((id : ℕ) → found id ≡ []) → PoolStands told volumes entries found known (λ id. absent)
+empty_stands told volumes entries found known some_volume holds none no_files = record {
   some_volume = some_volume;
   agrees = λ id valid. subst (λ (e : Option Entry). Agrees (option_map book_entry e) absent) (sym (none id)) tt;
   placed = λ id valid. subst (λ (e : Option Entry). IfSome e (λ entry. IsVolume volumes entry.vol)) (sym (none id)) tt;
   found_placed = λ id valid. subst (Each (λ l. IsVolume volumes l.vol)) (sym (no_files id)) tt;
   clean = λ id valid is. no_files id;
-  blocks = λ world is id valid. subst (λ (e : Option Entry). BlockStands (MatchesIf sound) (view_of world id) (block_books e (found id)) absent) (sym (none id))
-      (subst (λ left. BlockStands (MatchesIf sound) (view_of world id) (block_books None left) absent) (sym (no_files id))
-      (bare_stands (MatchesIf sound) (view_of world id) (holds.none world is id valid)));
+  blocks = λ world is id valid. subst (λ (e : Option Entry). BlockStands (Fits known id) (view_of world id) (block_books e (found id)) absent) (sym (none id))
+      (subst (λ left. BlockStands (Fits known id) (view_of world id) (block_books None left) absent) (sym (no_files id))
+      (bare_stands (Fits known id) (view_of world id) (holds.none world is id valid)));
   aside = holds.aside;
 }
 
-module _ {told told' : Option (List World)} {volumes volumes' : ℕ} {entries entries' : ℕ → Option Entry} {found found' : ℕ → List Leftover} {sound : Bool} {cells : Cells}
-    (stands : PoolStands told volumes entries found sound cells)
+module _ {told told' : Option (List World)} {volumes volumes' : ℕ} {entries entries' : ℕ → Option Entry} {found found' : ℕ → List Leftover} {known : Knowledge} {cells : Cells}
+    (stands : PoolStands told volumes entries found known cells)
     (id : ℕ) (valid : IsBlockId id) (step : View → View → Type 0) (reaches : Reaches id step told told') (same_volumes : volumes' ≡ volumes)
     (entry : Option Entry) (left : List Leftover) (cell : Cell)
     (changed : (other : ℕ) → entries' other ≡ (if other == id then entry else entries other))
@@ -54,8 +55,8 @@ module _ {told told' : Option (List World)} {volumes volumes' : ℕ} {entries en
     (placed : IfSome entry (λ e. IsVolume volumes e.vol))
     (left_placed : Each (λ l. IsVolume volumes l.vol) left)
     (clean : IsNotWaiting entry → left ≡ [])
-    (own : (before after : View) → step before after → BlockStands (MatchesIf sound) before (block_books (entries id) (found id)) (cells id) →
-    BlockStands (MatchesIf sound) after (block_books entry left) cell) where
+    (own : (before after : View) → step before after → BlockStands (Fits known id) before (block_books (entries id) (found id)) (cells id) →
+    BlockStands (Fits known id) after (block_books entry left) cell) where
   -- what the books say of each block
   abbrev Said : (P : ℕ → Option Entry → List Leftover → Cell → Type 0) → Type 0
   Said P = (other : ℕ) → IsBlockId other → P other (entries' other) (found' other) (with_cell cells id cell other)
@@ -71,7 +72,7 @@ module _ {told told' : Option (List World)} {volumes volumes' : ℕ} {entries en
       ]))
 
   -- THE BLOCK CHANGED, and the pool stands for the cells with its new one
-  pub pool_stands : PoolStands told' volumes' entries' found' sound (with_cell cells id cell)
+  pub pool_stands : PoolStands told' volumes' entries' found' known (with_cell cells id cell)
   pool_stands = record {
     some_volume = subst (λ n. 1 ≤ n) (sym same_volumes) stands.some_volume;
     agrees = said (λ other e l c. Agrees (option_map book_entry e) c) agrees (λ other valid_other apart. stands.agrees other valid_other);
@@ -82,9 +83,9 @@ module _ {told told' : Option (List World)} {volumes volumes' : ℕ} {entries en
     clean = said (λ other e l c. IsNotWaiting e → l ≡ []) clean (λ other valid_other apart. stands.clean other valid_other);
     blocks = λ world is.
         let from : ComesFrom id step told world = reaches.each world is in
-        said (λ other e l c. BlockStands (MatchesIf sound) (view_of world other) (block_books e l) c)
+        said (λ other e l c. BlockStands (Fits known other) (view_of world other) (block_books e l) c)
         (own (view_of from.was id) (view_of world id) from.stepped (stands.blocks from.was from.is id valid))
-        (λ other valid_other apart. subst (λ v. BlockStands (MatchesIf sound) v (block_books (entries other) (found other)) (cells other))
+        (λ other valid_other apart. subst (λ v. BlockStands (Fits known other) v (block_books (entries other) (found other)) (cells other))
         (sym (from.others other valid_other apart)) (stands.blocks from.was from.is other valid_other));
     aside = λ world is. let from : ComesFrom id step told world = reaches.each world is in from.aside (stands.aside from.was from.is);
   }
@@ -130,3 +131,62 @@ restated id old mid new entry state added changed other =
       | inl same ↦ changed other ∙ rw (eq-eqb other id same) (ap (λ (e : Option Entry). option_map (with_state state) e) here)
       | inr apart ↦ changed other ∙ rw (ne_eqb other id apart) (added other ∙ rw (ne_eqb other id apart) refl)
     ]
+
+-- ---- what is known of the meta files
+
+learned_elsewhere : (known : Knowledge) (id stamp : ℕ) (meta : List ℕ) (other : ℕ) → (other ≡ id → ⊥) → (content : List ℕ) (replica : Replica) →
+    Fits known other content replica → Fits (learned id stamp meta known) other content replica
+learned_elsewhere nothing id stamp meta other apart content replica fits = tt
+learned_elsewhere matching id stamp meta other apart content replica fits = fits
+learned_elsewhere (exactly metas) id stamp meta other apart content replica fits = rw (ne_eqb other id apart) fits
+
+-- no more is said of the files of a block that grows over none
+grows_by : (M N : List ℕ → Replica → Type 0) (view : View) (books : BlockBooks) (stamp left : ℕ) (bytes : List ℕ) →
+    BlockStands M view books (growing stamp None bytes left) → BlockStands N view books (growing stamp None bytes left)
+grows_by M N view books stamp left bytes own = record {
+  agrees = own.agrees;
+  content = tt;
+  accounted = own.accounted;
+  apart = own.apart;
+  leftovers = own.leftovers;
+  settled = own.settled;
+  stamp = own.stamp;
+  writer = own.writer;
+  ticket = own.ticket;
+}
+
+-- so whatever its meta file will be, the pool stands
+pub learns : {told : Option (List World)} {volumes : ℕ} {entries : ℕ → Option Entry} {found : ℕ → List Leftover} {known : Knowledge} {cells : Cells} →
+    PoolStands told volumes entries found known cells → (id stamp left : ℕ) (bytes meta : List ℕ) → cells id ≡ growing stamp None bytes left →
+    PoolStands told volumes entries found (learned id stamp meta known) cells
+learns {entries = entries} {found = found} {known = known} {cells = cells} stands id stamp left bytes meta grows = record {
+  some_volume = stands.some_volume;
+  agrees = stands.agrees;
+  placed = stands.placed;
+  found_placed = stands.found_placed;
+  clean = stands.clean;
+  blocks = λ world is other valid. elim (cases_eq other id) [
+    | inl same ↦
+        let here : cells other ≡ growing stamp None bytes left = ap cells same ∙ grows in
+        subst (BlockStands (Fits (learned id stamp meta known) other) (view_of world other) (block_books (entries other) (found other))) (sym here)
+        (grows_by (Fits known other) (Fits (learned id stamp meta known) other) (view_of world other) (block_books (entries other) (found other)) stamp left bytes
+        (subst (BlockStands (Fits known other) (view_of world other) (block_books (entries other) (found other))) here (stands.blocks world is other valid)))
+    | inr apart ↦ stands_by (Fits known other) (Fits (learned id stamp meta known) other) (learned_elsewhere known id stamp meta other apart)
+        (view_of world other) (block_books (entries other) (found other)) (cells other) (stands.blocks world is other valid)
+  ];
+  aside = stands.aside;
+}
+
+-- A POOL STANDS BY LESS
+pub stands_for_less : {told : Option (List World)} {volumes : ℕ} {entries : ℕ → Option Entry} {found : ℕ → List Leftover} {known less : Knowledge} {cells : Cells} →
+    ((id : ℕ) (content : List ℕ) (replica : Replica) → Fits known id content replica → Fits less id content replica) →
+    PoolStands told volumes entries found known cells → PoolStands told volumes entries found less cells
+stands_for_less {entries = entries} {found = found} {known = known} {less = less} {cells = cells} weaken stands = record {
+  some_volume = stands.some_volume;
+  agrees = stands.agrees;
+  placed = stands.placed;
+  found_placed = stands.found_placed;
+  clean = stands.clean;
+  blocks = λ world is id valid. stands_by (Fits known id) (Fits less id) (weaken id) (view_of world id) (block_books (entries id) (found id)) (cells id) (stands.blocks world is id valid);
+  aside = stands.aside;
+}

@@ -7,7 +7,7 @@ use Rattle.disk_model.specs.Moments.{AddsOnly}
 use Rattle.volume_layout.specs.Paths.{IsBlockId}
 use Rattle.map_model.specs.Cells.{Replica, Cell, Cells, absent, final, growing, unsure, waiting}
 use Rattle.map_model.specs.Allows.{Allows}
-use Rattle.map_model.specs.Sound.{MatchesIf}
+use Rattle.map_model.specs.Sound.{Knowledge, Fits}
 use Rattle.map_model.specs.Steps.{Step, delete, failed, done, is_writing, delete_refusal}
 use Rattle.map_model.specs.Slots.{File, block, meta, writing_block, writing_meta, View}
 use Rattle.map_model.specs.Stands.{Agrees, WritesOver, IsInDoubt, is_final, in_doubt, is_waiting, Leftover, BlockStands}
@@ -74,16 +74,16 @@ free_cell (unsure x y cut) e is agrees = refl
 free_cell waiting e is agrees = refl
 
 -- removals show what their moments pass
-pub adds_removals : {told : Option (List World)} {volumes : ℕ} {entries : ℕ → Option Entry} {found : ℕ → List Leftover} {sound : Bool} {cells : Cells}
-    (stands : PoolStands told volumes entries found sound cells) (id : ℕ) (valid : IsBlockId id) {vol : ℕ} {files : List File} {done : Type 0} {new : Option (List World)} {past since : ℕ → Files → Type 0} →
-    RemovesFiles id vol files done told new past since → (cell : Cell) → Passes stands id valid (RemovesSome vol files) cell → AddsOnly past since (Shown sound cells (with_cell cells id cell))
+pub adds_removals : {told : Option (List World)} {volumes : ℕ} {entries : ℕ → Option Entry} {found : ℕ → List Leftover} {known : Knowledge} {cells : Cells}
+    (stands : PoolStands told volumes entries found known cells) (id : ℕ) (valid : IsBlockId id) {vol : ℕ} {files : List File} {done : Type 0} {new : Option (List World)} {past since : ℕ → Files → Type 0} →
+    RemovesFiles id vol files done told new past since → (cell : Cell) → Passes stands id valid (RemovesSome vol files) cell → AddsOnly past since (Shown known cells (with_cell cells id cell))
 adds_removals stands id valid {vol = vol} {files = files} removes cell passes t image s = elim (removes.moments t image s) [
   | inl earlier ↦ inl earlier
   | inr now ↦ inr (shown stands id valid (RemovesSome vol files) now.0 now.1 cell passes image now.2)
 ]
 
-module _ {told : Option (List World)} {volumes : ℕ} {entries : ℕ → Option Entry} {found : ℕ → List Leftover} {sound : Bool} {cells : Cells}
-    (stands : PoolStands told volumes entries found sound cells) (id : ℕ) (valid : IsBlockId id) (e : Entry) (has : entries id ≡ Some e) where
+module _ {told : Option (List World)} {volumes : ℕ} {entries : ℕ → Option Entry} {found : ℕ → List Leftover} {known : Knowledge} {cells : Cells}
+    (stands : PoolStands told volumes entries found known cells) (id : ℕ) (valid : IsBlockId id) (e : Entry) (has : entries id ≡ Some e) where
   agrees_here : Agrees (Some (book_entry e)) (cells id)
   agrees_here = subst (λ (o : Option Entry). Agrees (option_map book_entry o) (cells id)) has (stands.agrees id valid)
 
@@ -94,11 +94,11 @@ module _ {told : Option (List World)} {volumes : ℕ} {entries : ℕ → Option 
   none_found : (state : State) → e.state ≡ state → IsNoWait state → found id ≡ []
   none_found state is calm = stands.clean id valid (subst IsNotWaiting (sym has) (subst IsNoWait (sym is) calm))
 
-  own_here : (state : State) → e.state ≡ state → (view : View) → BlockStands (MatchesIf sound) view (block_books (entries id) (found id)) (cells id) →
-      BlockStands (MatchesIf sound) view (books_of (Some (book_entry (with_state state e))) (left_in e state ++ found id) None) (cells id)
+  own_here : (state : State) → e.state ≡ state → (view : View) → BlockStands (Fits known id) view (block_books (entries id) (found id)) (cells id) →
+      BlockStands (Fits known id) view (books_of (Some (book_entry (with_state state e))) (left_in e state ++ found id) None) (cells id)
   own_here state is view own =
-      subst (λ s. BlockStands (MatchesIf sound) view (books_of (Some (book_entry (with_state s e))) (left_in e s ++ found id) None) (cells id)) is
-      (subst (λ (o : Option Entry). BlockStands (MatchesIf sound) view (block_books o (found id)) (cells id)) has own)
+      subst (λ s. BlockStands (Fits known id) view (books_of (Some (book_entry (with_state s e))) (left_in e s ++ found id) None) (cells id)) is
+      (subst (λ (o : Option Entry). BlockStands (Fits known id) view (block_books o (found id)) (cells id)) has own)
 
   pub refused_in : (result : Option DeleteFault) → result ≡ state_refusal e.state → IfSome result (λ fault. Step unlimited (cells id) delete (delete_fault fault) (cells id))
   refused_in result is = subst (λ o. IfSome o (λ fault. Step unlimited (cells id) delete (delete_fault fault) (cells id))) (sym is) (refused_cell (cells id) e e.state refl agrees_here)
@@ -115,25 +115,25 @@ module _ {told : Option (List World)} {volumes : ℕ} {entries : ℕ → Option 
       abbrev pub final_files : List File
       final_files = block ∷ meta e.stamp ∷ []
 
-      own_final : (view : View) → BlockStands (MatchesIf sound) view (block_books (entries id) (found id)) (cells id) →
-          BlockStands (MatchesIf sound) view (books_of (Some (book_entry (with_state Finalised e))) [] None) (final replica)
-      own_final view own = subst (λ c. BlockStands (MatchesIf sound) view (books_of (Some (book_entry (with_state Finalised e))) [] None) c) cell_is
-          (subst (λ l. BlockStands (MatchesIf sound) view (books_of (Some (book_entry (with_state Finalised e))) l None) (cells id)) (none_found Finalised is tt) (own_here Finalised is view own))
+      own_final : (view : View) → BlockStands (Fits known id) view (block_books (entries id) (found id)) (cells id) →
+          BlockStands (Fits known id) view (books_of (Some (book_entry (with_state Finalised e))) [] None) (final replica)
+      own_final view own = subst (λ c. BlockStands (Fits known id) view (books_of (Some (book_entry (with_state Finalised e))) [] None) c) cell_is
+          (subst (λ l. BlockStands (Fits known id) view (books_of (Some (book_entry (with_state Finalised e))) l None) (cells id)) (none_found Finalised is tt) (own_here Finalised is view own))
 
       -- some of its files are gone: it is in doubt
-      final_some : (before after : View) → RemovesSome e.vol final_files before after → BlockStands (MatchesIf sound) before (block_books (entries id) (found id)) (cells id) →
-          BlockStands (MatchesIf sound) after (block_books (Some (with_state Unsure e)) (found id)) (unsure (Some replica) None false)
+      final_some : (before after : View) → RemovesSome e.vol final_files before after → BlockStands (Fits known id) before (block_books (entries id) (found id)) (cells id) →
+          BlockStands (Fits known id) after (block_books (Some (with_state Unsure e)) (found id)) (unsure (Some replica) None false)
       final_some before after some own =
-          subst (λ l. BlockStands (MatchesIf sound) after (books_of (Some (book_entry (with_state Unsure e))) l None) (unsure (Some replica) None false)) (sym (none_found Finalised is tt))
-          (subst (λ v. BlockStands (MatchesIf sound) v (books_of (Some (book_entry (with_state Unsure e))) [] None) (unsure (Some replica) None false)) (sym some.1)
-          (delete_final_stands (MatchesIf sound) before None (book_entry (with_state Finalised e)) replica (own_final before own) _ _ _ (delete_failed some.0)))
+          subst (λ l. BlockStands (Fits known id) after (books_of (Some (book_entry (with_state Unsure e))) l None) (unsure (Some replica) None false)) (sym (none_found Finalised is tt))
+          (subst (λ v. BlockStands (Fits known id) v (books_of (Some (book_entry (with_state Unsure e))) [] None) (unsure (Some replica) None false)) (sym some.1)
+          (delete_final_stands (Fits known id) before None (book_entry (with_state Finalised e)) replica (own_final before own) _ _ _ (delete_failed some.0)))
 
-      final_all : (before after : View) → RemovesAll e.vol final_files before after → BlockStands (MatchesIf sound) before (block_books (entries id) (found id)) (cells id) →
-          BlockStands (MatchesIf sound) after (block_books None (found id)) absent
+      final_all : (before after : View) → RemovesAll e.vol final_files before after → BlockStands (Fits known id) before (block_books (entries id) (found id)) (cells id) →
+          BlockStands (Fits known id) after (block_books None (found id)) absent
       final_all before after all own =
-          subst (λ l. BlockStands (MatchesIf sound) after (books_of None l None) absent) (sym (none_found Finalised is tt))
-          (subst (λ v. BlockStands (MatchesIf sound) v (books_of None [] None) absent) (sym all)
-          (delete_final_stands (MatchesIf sound) before None (book_entry (with_state Finalised e)) replica (own_final before own) _ _ _ deleted))
+          subst (λ l. BlockStands (Fits known id) after (books_of None l None) absent) (sym (none_found Finalised is tt))
+          (subst (λ v. BlockStands (Fits known id) v (books_of None [] None) absent) (sym all)
+          (delete_final_stands (Fits known id) before None (book_entry (with_state Finalised e)) replica (own_final before own) _ _ _ deleted))
 
       -- what is shown meanwhile
       pub final_passes_doubt : Passes stands id valid (RemovesSome e.vol final_files) (unsure (Some replica) None false)
@@ -152,13 +152,13 @@ module _ {told : Option (List World)} {volumes : ℕ} {entries : ℕ → Option 
           (same_found : (other : ℕ) → found' other ≡ found other) where
         pub final_doubts : Reaches id (RemovesSome e.vol final_files) told told' →
             ((other : ℕ) → entries' other ≡ (if other == id then option_map (with_state Unsure) (entries id) else entries other)) →
-            PoolStands told' volumes' entries' found' sound (with_cell cells id (unsure (Some replica) None false))
+            PoolStands told' volumes' entries' found' known (with_cell cells id (unsure (Some replica) None false))
         final_doubts reaches changed = pool_stands stands id valid (RemovesSome e.vol final_files) reaches same_volumes (Some (with_state Unsure e)) (found id) (unsure (Some replica) None false)
             (λ other. changed other ∙ ap (λ (o : Option Entry). if other == id then option_map (with_state Unsure) o else entries other) has)
             (found_kept id found found' same_found) tt placed_here (stands.found_placed id valid) (λ no. none_found Finalised is tt) final_some
 
         pub final_goes : Reaches id (RemovesAll e.vol final_files) told told' →
-            ((other : ℕ) → entries' other ≡ (if other == id then None else entries other)) → PoolStands told' volumes' entries' found' sound (with_cell cells id absent)
+            ((other : ℕ) → entries' other ≡ (if other == id then None else entries other)) → PoolStands told' volumes' entries' found' known (with_cell cells id absent)
         final_goes reaches changed = pool_stands stands id valid (RemovesAll e.vol final_files) reaches same_volumes None (found id) absent changed
             (found_kept id found found' same_found) tt tt (stands.found_placed id valid) (λ no. none_found Finalised is tt) final_all
 
@@ -171,24 +171,24 @@ module _ {told : Option (List World)} {volumes : ℕ} {entries : ℕ → Option 
       abbrev pub doubt_files : List File
       doubt_files = block ∷ meta e.stamp ∷ writing_block ∷ writing_meta e.stamp ∷ []
 
-      own_doubt : (view : View) → BlockStands (MatchesIf sound) view (block_books (entries id) (found id)) (cells id) →
-          BlockStands (MatchesIf sound) view (books_of (Some (book_entry (with_state Unsure e))) [] None) (unsure x y cut)
-      own_doubt view own = subst (λ c. BlockStands (MatchesIf sound) view (books_of (Some (book_entry (with_state Unsure e))) [] None) c) cell_is
-          (subst (λ l. BlockStands (MatchesIf sound) view (books_of (Some (book_entry (with_state Unsure e))) l None) (cells id)) (none_found Unsure is tt) (own_here Unsure is view own))
+      own_doubt : (view : View) → BlockStands (Fits known id) view (block_books (entries id) (found id)) (cells id) →
+          BlockStands (Fits known id) view (books_of (Some (book_entry (with_state Unsure e))) [] None) (unsure x y cut)
+      own_doubt view own = subst (λ c. BlockStands (Fits known id) view (books_of (Some (book_entry (with_state Unsure e))) [] None) c) cell_is
+          (subst (λ l. BlockStands (Fits known id) view (books_of (Some (book_entry (with_state Unsure e))) l None) (cells id)) (none_found Unsure is tt) (own_here Unsure is view own))
 
-      doubt_some : (before after : View) → RemovesSome e.vol doubt_files before after → BlockStands (MatchesIf sound) before (block_books (entries id) (found id)) (cells id) →
-          BlockStands (MatchesIf sound) after (block_books (Some (with_state Unsure e)) (found id)) (unsure x y true)
+      doubt_some : (before after : View) → RemovesSome e.vol doubt_files before after → BlockStands (Fits known id) before (block_books (entries id) (found id)) (cells id) →
+          BlockStands (Fits known id) after (block_books (Some (with_state Unsure e)) (found id)) (unsure x y true)
       doubt_some before after some own =
-          subst (λ l. BlockStands (MatchesIf sound) after (books_of (Some (book_entry (with_state Unsure e))) l None) (unsure x y true)) (sym (none_found Unsure is tt))
-          (subst (λ v. BlockStands (MatchesIf sound) v (books_of (Some (book_entry (with_state Unsure e))) [] None) (unsure x y true)) (sym some.1)
-          (delete_unsure_stands (MatchesIf sound) before None (book_entry (with_state Unsure e)) None x y cut refl (own_doubt before own) _ _ _ (delete_failed some.0)))
+          subst (λ l. BlockStands (Fits known id) after (books_of (Some (book_entry (with_state Unsure e))) l None) (unsure x y true)) (sym (none_found Unsure is tt))
+          (subst (λ v. BlockStands (Fits known id) v (books_of (Some (book_entry (with_state Unsure e))) [] None) (unsure x y true)) (sym some.1)
+          (delete_unsure_stands (Fits known id) before None (book_entry (with_state Unsure e)) None x y cut refl (own_doubt before own) _ _ _ (delete_failed some.0)))
 
-      doubt_all : (before after : View) → RemovesAll e.vol doubt_files before after → BlockStands (MatchesIf sound) before (block_books (entries id) (found id)) (cells id) →
-          BlockStands (MatchesIf sound) after (block_books None (found id)) absent
+      doubt_all : (before after : View) → RemovesAll e.vol doubt_files before after → BlockStands (Fits known id) before (block_books (entries id) (found id)) (cells id) →
+          BlockStands (Fits known id) after (block_books None (found id)) absent
       doubt_all before after all own =
-          subst (λ l. BlockStands (MatchesIf sound) after (books_of None l None) absent) (sym (none_found Unsure is tt))
-          (subst (λ v. BlockStands (MatchesIf sound) v (books_of None [] None) absent) (sym all)
-          (delete_unsure_stands (MatchesIf sound) before None (book_entry (with_state Unsure e)) None x y cut refl (own_doubt before own) _ _ _ deleted))
+          subst (λ l. BlockStands (Fits known id) after (books_of None l None) absent) (sym (none_found Unsure is tt))
+          (subst (λ v. BlockStands (Fits known id) v (books_of None [] None) absent) (sym all)
+          (delete_unsure_stands (Fits known id) before None (book_entry (with_state Unsure e)) None x y cut refl (own_doubt before own) _ _ _ deleted))
 
       pub doubt_passes_cut : Passes stands id valid (RemovesSome e.vol doubt_files) (unsure x y true)
       doubt_passes_cut before after some own = at_books stands id valid after (unsure x y true) (unsure x y true) (Some (with_state Unsure e)) (found id)
@@ -206,12 +206,12 @@ module _ {told : Option (List World)} {volumes : ℕ} {entries : ℕ → Option 
           (same_found : (other : ℕ) → found' other ≡ found other) where
         pub doubt_stays : Reaches id (RemovesSome e.vol doubt_files) told told' →
             ((other : ℕ) → entries' other ≡ (if other == id then Some (with_state Unsure e) else entries other)) →
-            PoolStands told' volumes' entries' found' sound (with_cell cells id (unsure x y true))
+            PoolStands told' volumes' entries' found' known (with_cell cells id (unsure x y true))
         doubt_stays reaches changed = pool_stands stands id valid (RemovesSome e.vol doubt_files) reaches same_volumes (Some (with_state Unsure e)) (found id) (unsure x y true)
             changed (found_kept id found found' same_found) tt placed_here (stands.found_placed id valid) (λ no. none_found Unsure is tt) doubt_some
 
         pub doubt_goes : Reaches id (RemovesAll e.vol doubt_files) told told' →
-            ((other : ℕ) → entries' other ≡ (if other == id then None else entries other)) → PoolStands told' volumes' entries' found' sound (with_cell cells id absent)
+            ((other : ℕ) → entries' other ≡ (if other == id then None else entries other)) → PoolStands told' volumes' entries' found' known (with_cell cells id absent)
         doubt_goes reaches changed = pool_stands stands id valid (RemovesAll e.vol doubt_files) reaches same_volumes None (found id) absent changed
             (found_kept id found found' same_found) tt tt (stands.found_placed id valid) (λ no. none_found Unsure is tt) doubt_all
 
@@ -228,17 +228,17 @@ module _ {told : Option (List World)} {volumes : ℕ} {entries : ℕ → Option 
     pub waits_here : cells id ≡ waiting
     waits_here = waiting_cell (cells id) e false false is agrees_here
 
-    waits_own : (before after : View) → Stays before after → BlockStands (MatchesIf sound) before (block_books (entries id) (found id)) (cells id) →
-        BlockStands (MatchesIf sound) after (block_books None (found id)) absent
+    waits_own : (before after : View) → Stays before after → BlockStands (Fits known id) before (block_books (entries id) (found id)) (cells id) →
+        BlockStands (Fits known id) after (block_books None (found id)) absent
     waits_own before after stays own =
-        subst (λ l. BlockStands (MatchesIf sound) after (books_of None l None) absent) (sym none)
-        (subst (λ v. BlockStands (MatchesIf sound) v (books_of None [] None) absent) (sym stays)
-        (delete_waiting_stands (MatchesIf sound) before None (book_entry (with_state (Waiting false false) e))
-        (subst (λ c. BlockStands (MatchesIf sound) before (books_of (Some (book_entry (with_state (Waiting false false) e))) [] None) c) waits_here
-        (subst (λ l. BlockStands (MatchesIf sound) before (books_of (Some (book_entry (with_state (Waiting false false) e))) l None) (cells id)) none (own_here (Waiting false false) is before own)))))
+        subst (λ l. BlockStands (Fits known id) after (books_of None l None) absent) (sym none)
+        (subst (λ v. BlockStands (Fits known id) v (books_of None [] None) absent) (sym stays)
+        (delete_waiting_stands (Fits known id) before None (book_entry (with_state (Waiting false false) e))
+        (subst (λ c. BlockStands (Fits known id) before (books_of (Some (book_entry (with_state (Waiting false false) e))) [] None) c) waits_here
+        (subst (λ l. BlockStands (Fits known id) before (books_of (Some (book_entry (with_state (Waiting false false) e))) l None) (cells id)) none (own_here (Waiting false false) is before own)))))
 
     pub waiting_goes : (entries' : ℕ → Option Entry) (found' : ℕ → List Leftover) → ((other : ℕ) → found' other ≡ found other) →
-        ((other : ℕ) → entries' other ≡ (if other == id then None else entries other)) → PoolStands told volumes entries' found' sound (with_cell cells id absent)
+        ((other : ℕ) → entries' other ≡ (if other == id then None else entries other)) → PoolStands told volumes entries' found' known (with_cell cells id absent)
     waiting_goes entries' found' same_found changed = pool_stands stands id valid Stays (reaches_same id told told refl) refl None (found id) absent changed
         (found_kept id found found' same_found) tt tt (stands.found_placed id valid) (λ no. none) waits_own
 
@@ -246,7 +246,7 @@ module _ {told : Option (List World)} {volumes : ℕ} {entries : ℕ → Option 
 pub quiet_failure : {Says : Cell → Type 0} {cells : Cells} {Stood StandsFor : Bool → Cells → Type 0} {past since : ℕ → Files → Type 0} (id : ℕ) → IsQuiet cells Stood StandsFor past since →
     Step unlimited (cells id) delete failed (cells id) → Says (cells id) → TakesStep id delete failed Says cells Stood StandsFor past since
 quiet_failure {cells = cells} {StandsFor = StandsFor} id quiet step says = record {
-  to = record { cell = cells id; step = step; says = says; stands = λ sound old. subst (StandsFor sound) (sym (with_cell-same cells id)) (quiet.stands sound old) };
+  to = record { cell = cells id; step = step; says = says; stands = λ known old. subst (StandsFor known) (sym (with_cell-same cells id)) (quiet.stands known old) };
   images = adds_less quiet.images (λ image allows. inl allows);
   sound_images = quiet.sound_images;
   whole_images = quiet.whole_images;
@@ -254,10 +254,10 @@ quiet_failure {cells = cells} {StandsFor = StandsFor} id quiet step says = recor
 
 -- a quiet tenure, and then the books forget the block
 pub quiet_deletion : {Says : Cell → Type 0} {cells : Cells} {Stood Between StandsFor : Bool → Cells → Type 0} {past since : ℕ → Files → Type 0} (id : ℕ) → IsQuiet cells Stood Between past since →
-    Step unlimited (cells id) delete done absent → Says absent → ((sound : Bool) → Between sound cells → StandsFor sound (with_cell cells id absent)) →
+    Step unlimited (cells id) delete done absent → Says absent → ((known : Knowledge) → Between known cells → StandsFor known (with_cell cells id absent)) →
     TakesStep id delete done Says cells Stood StandsFor past since
 quiet_deletion id quiet step says forgets = record {
-  to = record { cell = absent; step = step; says = says; stands = λ sound old. forgets sound (quiet.stands sound old) };
+  to = record { cell = absent; step = step; says = says; stands = λ known old. forgets known (quiet.stands known old) };
   images = adds_less quiet.images (λ image allows. inl allows);
   sound_images = quiet.sound_images;
   whole_images = quiet.whole_images;

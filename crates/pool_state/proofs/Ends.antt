@@ -1,6 +1,6 @@
 -- What the end of a fresh write leaves, at each of its exits.
 use Rattle.std.proofs.Common.{◌≡◌, inl, inr, ℕ, ◌==◌, if◌then◌else◌, ◌⊎◌, ◌++◌, Bool, true, false, List, [], length, Option, None, Some, refl, sym, ◌∙◌, ap, subst, arith, IsTrue, IfSome, IsSome, option_map, nat_lt, unwrap_or}
-use Rattle.std.proofs.lemmas.Bool.{false≢true}
+use Rattle.std.proofs.lemmas.Bool.{cases_eq, eq-eqb, ne_eqb, false≢true}
 use Rattle.std.proofs.lemmas.Bool.Decides.{nat_tests}
 use Rattle.disk_model.specs.Worlds.{World, HasDraft, DraftPlace, draft_at, published}
 use Rattle.disk_model.specs.Told.{IsWorldOf, PicksOne, StandsBeforeOrAfter, StillStands, told_bytes}
@@ -8,7 +8,7 @@ use Rattle.disk_model.proofs.Laws.{is_told}
 use Rattle.volume_layout.specs.Paths.{IsBlockId}
 use Rattle.volume_layout.proofs.Reading.{is_stamp-IsStamp}
 use Rattle.map_model.specs.Cells.{Replica, Cell, Cells, absent, final, growing, unsure, waiting}
-use Rattle.map_model.specs.Sound.{MatchesIf}
+use Rattle.map_model.specs.Sound.{Knowledge, nothing, matching, exactly, Fits, learned}
 use Rattle.map_model.specs.Allows.{Allows}
 use Rattle.map_model.specs.Steps.{Step, CarriedOut, finish, drop_write, Reply}
 use Rattle.map_model.specs.Slots.{File, meta, writing_block, writing_meta, is_file, path_of, drafted, View, view_of, publish_in}
@@ -23,23 +23,21 @@ use Rattle.pool_state.specs.declared.entry.State.TheVariants.{Finalised, Writing
 use Rattle.pool_state.specs.Answers.{unlimited, IsWritingState, IsWritten}
 use Rattle.pool_state.specs.Books.{entry_state, book_entry, left_in, block_books, with_state}
 use Rattle.pool_state.specs.Stands.{with_cell, IsVolume, IsNoWait, IsNotWaiting, PoolStands}
-use Rattle.pair_draft.specs.Writers.{Pair, meta_header}
+use Rattle.pair_draft.specs.Writers.{Pair}
 use Rattle.pair_draft.specs.Writers as drafts
-use Rattle.pool_state.specs.Writers.{PairStands}
+use Rattle.pool_state.specs.Writers.{PairStands, meta_of}
 use Rattle.pool_state.specs.Writers as writers
 use Rattle.pool_state.specs.Reaching.{Reaches, ComesFrom}
 use Rattle.pool_state.proofs.Reaching.{reaches_published, reaches_publish}
 use Rattle.pool_state.proofs.Changing.{pool_stands, found_kept}
 use Rattle.pool_state.proofs.Showing.{Passes, at_books, passes_end}
 
--- the bytes of a sealed pair's meta file
-abbrev pub meta_of : {told : Option (List World)} {entries : ℕ → Option Entry} {p : Pair} {bytes : List ℕ} → PairStands told entries p bytes → List ℕ
-meta_of belongs = meta_header ++ belongs.sealed.sums
-
--- which match the block's, whether the disks began sound or not
-meta_matches : (sound : Bool) {told : Option (List World)} {entries : ℕ → Option Entry} {p : Pair} {bytes : List ℕ} (belongs : PairStands told entries p bytes) → MatchesIf sound (meta_of belongs) bytes
-meta_matches true belongs = belongs.sealed.of_bytes.matches
-meta_matches false belongs = tt
+-- the bytes of a sealed pair's meta file are what is known once they are
+pub meta_fits : (known : Knowledge) {told : Option (List World)} {entries : ℕ → Option Entry} {p : Pair} {bytes : List ℕ} (belongs : PairStands told entries p bytes) →
+    Fits (learned p.id p.stamp (meta_of belongs) known) p.id (meta_of belongs) (record { stamp = p.stamp; bytes = bytes })
+meta_fits nothing belongs = tt
+meta_fits matching belongs = belongs.sealed.of_bytes.matches
+meta_fits (exactly metas) {p = p} belongs = rw (eq-eqb p.id p.id refl) (rw (eq-eqb p.stamp p.stamp refl) refl)
 
 -- more is known of a step where the disks tell
 pub reaches_told : (id : ℕ) (step other : View → View → Type 0) (old new : Option (List World)) → Reaches id step old new →
@@ -100,8 +98,8 @@ doubt_covers stamp left bytes read (inl first) = inl first
 doubt_covers stamp left bytes read (inr (inl second)) = inr second
 doubt_covers stamp left bytes read (inr (inr gone)) = absurd (false≢true gone.0)
 
-module _ {told : Option (List World)} {volumes : ℕ} {entries : ℕ → Option Entry} {found : ℕ → List Leftover} {sound : Bool} {cells : Cells}
-    (stands : PoolStands told volumes entries found sound cells) (p : Pair) (bytes : List ℕ) (belongs : PairStands told entries p bytes) where
+module _ {told : Option (List World)} {volumes : ℕ} {entries : ℕ → Option Entry} {found : ℕ → List Leftover} {known : Knowledge} {cells : Cells}
+    (stands : PoolStands told volumes entries found known cells) (p : Pair) (bytes : List ℕ) (belongs : PairStands told entries p bytes) where
   -- the entry of the writer, to its tenure
   abbrev pub writer : Writer
   writer = record { vol = p.vol; stamp = p.stamp; len = belongs.reserved; rev = 0; block_number = belongs.block_number; meta_number = belongs.meta_number }
@@ -110,8 +108,8 @@ module _ {told : Option (List World)} {volumes : ℕ} {entries : ℕ → Option 
   entry = writers.writer_entry p.id p.stamp p.vol belongs.reserved belongs.block_number belongs.meta_number
 
   -- a block that is written, in a world
-  written_in : (world : World) → IsWorldOf told world → BlockStands (MatchesIf sound) (view_of world p.id) (block_books (Some entry) (found p.id)) (cells p.id)
-  written_in world is = subst (λ (e : Option Entry). BlockStands (MatchesIf sound) (view_of world p.id) (block_books e (found p.id)) (cells p.id)) belongs.entry
+  written_in : (world : World) → IsWorldOf told world → BlockStands (Fits known p.id) (view_of world p.id) (block_books (Some entry) (found p.id)) (cells p.id)
+  written_in world is = subst (λ (e : Option Entry). BlockStands (Fits known p.id) (view_of world p.id) (block_books e (found p.id)) (cells p.id)) belongs.entry
       (stands.blocks world is p.id belongs.valid.0)
 
   -- both drafts stand
@@ -129,7 +127,7 @@ module _ {told : Option (List World)} {volumes : ℕ} {entries : ℕ → Option 
       (view_drafted world p.id p.vol writing_block refl belongs.block_number
       (subst (λ (v : View). v p.vol writing_block ≡ drafted belongs.block_number) (sym from.stepped) there))
 
-  module _ (left : ℕ) (grows : cells p.id ≡ growing p.stamp None bytes left) where
+  module _ (left : ℕ) (grows : cells p.id ≡ growing p.stamp None bytes left) (fits : Fits known p.id (meta_of belongs) (record { stamp = p.stamp; bytes = bytes })) where
     -- the new replica
     abbrev pub new : Replica
     new = record { stamp = p.stamp; bytes = bytes }
@@ -137,10 +135,10 @@ module _ {told : Option (List World)} {volumes : ℕ} {entries : ℕ → Option 
     abbrev pub whole : Entry
     whole = record { id = p.id; stamp = p.stamp; len = p.len; vol = p.vol; state = Finalised }
 
-    own_growing : (view : View) → BlockStands (MatchesIf sound) view (block_books (entries p.id) (found p.id)) (cells p.id) →
-        BlockStands (MatchesIf sound) view (fresh_books (found p.id) None writer) (growing p.stamp None bytes left)
-    own_growing view own = subst (BlockStands (MatchesIf sound) view (fresh_books (found p.id) None writer)) grows
-        (subst (λ (e : Option Entry). BlockStands (MatchesIf sound) view (block_books e (found p.id)) (cells p.id)) belongs.entry own)
+    own_growing : (view : View) → BlockStands (Fits known p.id) view (block_books (entries p.id) (found p.id)) (cells p.id) →
+        BlockStands (Fits known p.id) view (fresh_books (found p.id) None writer) (growing p.stamp None bytes left)
+    own_growing view own = subst (BlockStands (Fits known p.id) view (fresh_books (found p.id) None writer)) grows
+        (subst (λ (e : Option Entry). BlockStands (Fits known p.id) view (block_books e (found p.id)) (cells p.id)) belongs.entry own)
 
     -- the opening found no files of it
     no_files : found p.id ≡ []
@@ -153,11 +151,11 @@ module _ {told : Option (List World)} {volumes : ℕ} {entries : ℕ → Option 
         (ends : (before after : View) → step before after → FinishesFresh before (found p.id) None writer (meta_of belongs) bytes after
         (books_of (Some (writer_entry writer (in_doubt None))) (found p.id) None) (unsure None (Some new) false)) where
       -- a publish failed: the block is in doubt
-      doubt_own : (before after : View) → step before after → BlockStands (MatchesIf sound) before (block_books (entries p.id) (found p.id)) (cells p.id) →
-          BlockStands (MatchesIf sound) after (block_books (Some (with_state Unsure entry)) (found p.id)) (unsure None (Some new) false)
-      doubt_own before after stepped own = finish_fresh_stands (MatchesIf sound) before (found p.id) None writer (meta_of belongs) bytes left after
+      doubt_own : (before after : View) → step before after → BlockStands (Fits known p.id) before (block_books (entries p.id) (found p.id)) (cells p.id) →
+          BlockStands (Fits known p.id) after (block_books (Some (with_state Unsure entry)) (found p.id)) (unsure None (Some new) false)
+      doubt_own before after stepped own = finish_fresh_stands (Fits known p.id) before (found p.id) None writer (meta_of belongs) bytes left after
           (books_of (Some (writer_entry writer (in_doubt None))) (found p.id) None) (unsure None (Some new) false)
-          (own_growing before own) (meta_matches sound belongs) (ends before after stepped)
+          (own_growing before own) fits (ends before after stepped)
 
       pub doubt_passes : Passes stands p.id belongs.valid.0 step (unsure None (Some new) false)
       doubt_passes = passes_end stands p.id belongs.valid.0 step (unsure None (Some new) false) (Some (with_state Unsure entry)) (found p.id) (λ e. no_files) doubt_own
@@ -172,22 +170,22 @@ module _ {told : Option (List World)} {volumes : ℕ} {entries : ℕ → Option 
           (same_found : (other : ℕ) → found' other ≡ found other) where
         pub finish_doubts : Reaches p.id step told told' →
             ((other : ℕ) → entries' other ≡ (if other == p.id then option_map (with_state Unsure) (entries p.id) else entries other)) →
-            PoolStands told' volumes' entries' found' sound (with_cell cells p.id (unsure None (Some new) false))
+            PoolStands told' volumes' entries' found' known (with_cell cells p.id (unsure None (Some new) false))
         finish_doubts reaches changed = pool_stands stands p.id belongs.valid.0 step reaches same_volumes (Some (with_state Unsure entry)) (found p.id) (unsure None (Some new) false)
             (λ other. changed other ∙ ap (λ (e : Option Entry). if other == p.id then option_map (with_state Unsure) e else entries other) belongs.entry)
             (found_kept p.id found found' same_found) tt placed (stands.found_placed p.id belongs.valid.0) (λ e. no_files) doubt_own
 
     -- both were done: the block is final
     module _ (step : View → View → Type 0) (ends : (before after : View) → step before after → after ≡ both_published before writer (meta_of belongs) bytes) where
-      final_own : (before after : View) → step before after → BlockStands (MatchesIf sound) before (block_books (entries p.id) (found p.id)) (cells p.id) →
-          BlockStands (MatchesIf sound) after (block_books (Some whole) (found p.id)) (final new)
+      final_own : (before after : View) → step before after → BlockStands (Fits known p.id) before (block_books (entries p.id) (found p.id)) (cells p.id) →
+          BlockStands (Fits known p.id) after (block_books (Some whole) (found p.id)) (final new)
       final_own before after stepped own =
-          subst (λ n. BlockStands (MatchesIf sound) after (block_books (Some (record whole { len = n })) (found p.id)) (final new)) (sym belongs.sealed.len)
-          (subst (λ v. BlockStands (MatchesIf sound) v (books_of (Some (final_entry writer (length bytes))) (found p.id) None) (final (new_replica writer bytes)))
+          subst (λ n. BlockStands (Fits known p.id) after (block_books (Some (record whole { len = n })) (found p.id)) (final new)) (sym belongs.sealed.len)
+          (subst (λ v. BlockStands (Fits known p.id) v (books_of (Some (final_entry writer (length bytes))) (found p.id) None) (final (new_replica writer bytes)))
           (sym (ends before after stepped))
-          (finish_fresh_stands (MatchesIf sound) before (found p.id) None writer (meta_of belongs) bytes left (both_published before writer (meta_of belongs) bytes)
+          (finish_fresh_stands (Fits known p.id) before (found p.id) None writer (meta_of belongs) bytes left (both_published before writer (meta_of belongs) bytes)
           (books_of (Some (final_entry writer (length bytes))) (found p.id) None) (final (new_replica writer bytes))
-          (own_growing before own) (meta_matches sound belongs) finished))
+          (own_growing before own) fits finished))
 
       pub final_passes : Passes stands p.id belongs.valid.0 step (final new)
       final_passes = passes_end stands p.id belongs.valid.0 step (final new) (Some whole) (found p.id) (λ e. no_files) final_own
@@ -196,19 +194,19 @@ module _ {told : Option (List World)} {volumes : ℕ} {entries : ℕ → Option 
           (same_found : (other : ℕ) → found' other ≡ found other) where
         pub finish_ends : Reaches p.id step told told' →
             ((other : ℕ) → entries' other ≡ (if other == p.id then Some whole else entries other)) →
-            PoolStands told' volumes' entries' found' sound (with_cell cells p.id (final new))
+            PoolStands told' volumes' entries' found' known (with_cell cells p.id (final new))
         finish_ends reaches changed = pool_stands stands p.id belongs.valid.0 step reaches same_volumes (Some whole) (found p.id) (final new)
             changed (found_kept p.id found found' same_found) (refl, refl, belongs.sealed.len) placed (stands.found_placed p.id belongs.valid.0) (λ e. no_files) final_own
 
 -- a writer's drafts stand on one of the volumes
-pub writer_placed : {told : Option (List World)} {volumes : ℕ} {entries : ℕ → Option Entry} {found : ℕ → List Leftover} {sound : Bool} {cells : Cells} →
-    PoolStands told volumes entries found sound cells → (w : drafts.Writer) → writers.WriterBelongs entries w → IsVolume volumes w.vol
+pub writer_placed : {told : Option (List World)} {volumes : ℕ} {entries : ℕ → Option Entry} {found : ℕ → List Leftover} {known : Knowledge} {cells : Cells} →
+    PoolStands told volumes entries found known cells → (w : drafts.Writer) → writers.WriterBelongs entries w → IsVolume volumes w.vol
 writer_placed {volumes = volumes} stands w belongs =
     subst (λ (o : Option Entry). IfSome o (λ x. IsVolume volumes x.vol)) belongs.entry (stands.placed w.id belongs.valid.0)
 
 -- A fresh writer that is given up, or is being dropped: its block waits, or is absent.
-module _ {told : Option (List World)} {volumes : ℕ} {entries : ℕ → Option Entry} {found : ℕ → List Leftover} {sound : Bool} {cells : Cells}
-    (stands : PoolStands told volumes entries found sound cells)
+module _ {told : Option (List World)} {volumes : ℕ} {entries : ℕ → Option Entry} {found : ℕ → List Leftover} {known : Knowledge} {cells : Cells}
+    (stands : PoolStands told volumes entries found known cells)
     (id stamp left : ℕ) (bytes : List ℕ) (valid : IsBlockId id) (grows : cells id ≡ growing stamp None bytes left) where
   -- the writer of an entry
   abbrev pub writer_in : Entry → ℕ → ℕ → Writer
@@ -218,14 +216,14 @@ module _ {told : Option (List World)} {volumes : ℕ} {entries : ℕ → Option 
     agrees_here : Agrees (Some (book_entry e)) (growing stamp None bytes left)
     agrees_here = subst (Agrees (Some (book_entry e))) grows (subst (λ (o : Option Entry). Agrees (option_map book_entry o) (cells id)) has (stands.agrees id valid))
 
-    own_written : (view : View) → BlockStands (MatchesIf sound) view (block_books (entries id) (found id)) (cells id) →
-        BlockStands (MatchesIf sound) view (books_of (Some (writer_entry (writer_in e b m) (is_written None b m))) (found id) None) (growing e.stamp None bytes left)
+    own_written : (view : View) → BlockStands (Fits known id) view (block_books (entries id) (found id)) (cells id) →
+        BlockStands (Fits known id) view (books_of (Some (writer_entry (writer_in e b m) (is_written None b m))) (found id) None) (growing e.stamp None bytes left)
     own_written view own =
         let at_stamp : growing e.stamp None bytes left ≡ growing stamp None bytes left = ap (λ s. growing s None bytes left) agrees_here.0 in
-        subst (λ st. BlockStands (MatchesIf sound) view (books_of (Some (record { stamp = e.stamp; len = e.len; vol = e.vol; rev = 0; state = entry_state st })) (left_in e st ++ found id) None) (growing e.stamp None bytes left)) is_written_state
-        (subst (BlockStands (MatchesIf sound) view (block_books (Some e) (found id))) (sym at_stamp)
-        (subst (BlockStands (MatchesIf sound) view (block_books (Some e) (found id))) grows
-        (subst (λ (o : Option Entry). BlockStands (MatchesIf sound) view (block_books o (found id)) (cells id)) has own)))
+        subst (λ st. BlockStands (Fits known id) view (books_of (Some (record { stamp = e.stamp; len = e.len; vol = e.vol; rev = 0; state = entry_state st })) (left_in e st ++ found id) None) (growing e.stamp None bytes left)) is_written_state
+        (subst (BlockStands (Fits known id) view (block_books (Some e) (found id))) (sym at_stamp)
+        (subst (BlockStands (Fits known id) view (block_books (Some e) (found id))) grows
+        (subst (λ (o : Option Entry). BlockStands (Fits known id) view (block_books o (found id)) (cells id)) has own)))
 
     pub placed_here : IsVolume volumes e.vol
     placed_here = subst (λ (o : Option Entry). IfSome o (λ x. IsVolume volumes x.vol)) has (stands.placed id valid)
@@ -236,9 +234,9 @@ module _ {told : Option (List World)} {volumes : ℕ} {entries : ℕ → Option 
 
     module _ (step : View → View → Type 0) (block_left meta_left : Bool)
         (drops : (before after : View) → step before after → DropsFresh before (found id) None (writer_in e b m) after (block_books (Some (with_state (Waiting block_left meta_left) e)) (found id)) waiting) where
-      waits_own : (before after : View) → step before after → BlockStands (MatchesIf sound) before (block_books (entries id) (found id)) (cells id) →
-          BlockStands (MatchesIf sound) after (block_books (Some (with_state (Waiting block_left meta_left) e)) (found id)) waiting
-      waits_own before after stepped own = drop_fresh_stands (MatchesIf sound) before (found id) None (writer_in e b m) bytes left (own_written before own)
+      waits_own : (before after : View) → step before after → BlockStands (Fits known id) before (block_books (entries id) (found id)) (cells id) →
+          BlockStands (Fits known id) after (block_books (Some (with_state (Waiting block_left meta_left) e)) (found id)) waiting
+      waits_own before after stepped own = drop_fresh_stands (Fits known id) before (found id) None (writer_in e b m) bytes left (own_written before own)
           after (block_books (Some (with_state (Waiting block_left meta_left) e)) (found id)) waiting (drops before after stepped)
 
       -- meanwhile nothing is read of it
@@ -251,17 +249,17 @@ module _ {told : Option (List World)} {volumes : ℕ} {entries : ℕ → Option 
           (same_found : (other : ℕ) → found' other ≡ found other) where
         pub given_up_stands : Reaches id step told told' →
             ((other : ℕ) → entries' other ≡ (if other == id then option_map (with_state (Waiting block_left meta_left)) (entries id) else entries other)) →
-            PoolStands told' volumes' entries' found' sound (with_cell cells id waiting)
+            PoolStands told' volumes' entries' found' known (with_cell cells id waiting)
         given_up_stands reaches changed = pool_stands stands id valid step reaches same_volumes (Some (with_state (Waiting block_left meta_left) e)) (found id) waiting
             (λ other. changed other ∙ ap (λ (o : Option Entry). if other == id then option_map (with_state (Waiting block_left meta_left)) o else entries other) has)
             (found_kept id found found' same_found) refl placed_here (stands.found_placed id valid) (λ waits. absurd waits) waits_own
 
     -- both drafts are gone: the block is absent
     module _ (step : View → View → Type 0) (drops : (before after : View) → step before after → after ≡ both_dropped before (writer_in e b m)) where
-      absent_own : (before after : View) → step before after → BlockStands (MatchesIf sound) before (block_books (entries id) (found id)) (cells id) →
-          BlockStands (MatchesIf sound) after (block_books None (found id)) absent
-      absent_own before after stepped own = subst (λ v. BlockStands (MatchesIf sound) v (block_books None (found id)) absent) (sym (drops before after stepped))
-          (drop_fresh_stands (MatchesIf sound) before (found id) None (writer_in e b m) bytes left (own_written before own)
+      absent_own : (before after : View) → step before after → BlockStands (Fits known id) before (block_books (entries id) (found id)) (cells id) →
+          BlockStands (Fits known id) after (block_books None (found id)) absent
+      absent_own before after stepped own = subst (λ v. BlockStands (Fits known id) v (block_books None (found id)) absent) (sym (drops before after stepped))
+          (drop_fresh_stands (Fits known id) before (found id) None (writer_in e b m) bytes left (own_written before own)
           (both_dropped before (writer_in e b m)) (block_books None (found id)) absent dropped)
 
       pub absent_passes : Passes stands id valid step absent
@@ -270,7 +268,7 @@ module _ {told : Option (List World)} {volumes : ℕ} {entries : ℕ → Option 
       module _ (told' : Option (List World)) (volumes' : ℕ) (entries' : ℕ → Option Entry) (found' : ℕ → List Leftover) (same_volumes : volumes' ≡ volumes)
           (same_found : (other : ℕ) → found' other ≡ found other) where
         pub dropped_stands : Reaches id step told told' → ((other : ℕ) → entries' other ≡ (if other == id then None else entries other)) →
-            PoolStands told' volumes' entries' found' sound (with_cell cells id absent)
+            PoolStands told' volumes' entries' found' known (with_cell cells id absent)
         dropped_stands reaches changed = pool_stands stands id valid step reaches same_volumes None (found id) absent changed
             (found_kept id found found' same_found) tt tt (stands.found_placed id valid)
             (λ none. clean_here) absent_own

@@ -7,7 +7,7 @@ use Rattle.disk_model.proofs.Laws.{told_list, each_after_failed}
 use Rattle.volume_layout.specs.Paths.{IsBlockId}
 use Rattle.map_model.specs.World.{DraftsAside}
 use Rattle.map_model.specs.Cells.{Replica, Cell, Cells, absent, final, growing, unsure, waiting}
-use Rattle.map_model.specs.Sound.{MatchesIf}
+use Rattle.map_model.specs.Sound.{Knowledge, Fits}
 use Rattle.map_model.specs.Slots.{File, block, meta, Slot, empty, holds, path_of, is_file, is_aside_file, slot_at, view_of}
 use Rattle.map_model.specs.Stands.{Agrees, Leftover, Each, WritesOver, IsInDoubt, is_final, is_waiting, PairStands, BlockStands}
 use Rattle.map_model.proofs.Aside.{aside_no_draft}
@@ -24,34 +24,34 @@ use Rattle.pool_state.proofs.Showing.{Quiet}
 use Rattle.pool_state.specs.Readers.{reader_bytes, IsMetaOf, Lends, file_of}
 
 -- a call that only looks leaves what stands
-pub stands_looked : (told told' : Option (List World)) (volumes volumes' : ℕ) (entries : ℕ → Option Entry) (found : ℕ → List Leftover) (sound : Bool) (cells : Cells) →
-    PoolStands told volumes entries found sound cells → StandsBeforeOrAfter (λ w. w) told told' → volumes' ≡ volumes → PoolStands told' volumes' entries found sound cells
-stands_looked told told' volumes volumes' entries found sound cells stands call same = record {
+pub stands_looked : (told told' : Option (List World)) (volumes volumes' : ℕ) (entries : ℕ → Option Entry) (found : ℕ → List Leftover) (known : Knowledge) (cells : Cells) →
+    PoolStands told volumes entries found known cells → StandsBeforeOrAfter (λ w. w) told told' → volumes' ≡ volumes → PoolStands told' volumes' entries found known cells
+stands_looked told told' volumes volumes' entries found known cells stands call same = record {
   some_volume = subst (λ n. 1 ≤ n) (sym same) stands.some_volume;
   agrees = stands.agrees;
   placed = subst (λ n. (id : ℕ) → IsBlockId id → IfSome (entries id) (λ e. IsVolume n e.vol)) (sym same) stands.placed;
   found_placed = subst (λ n. (id : ℕ) → IsBlockId id → Each (λ l. IsVolume n l.vol) (found id)) (sym same) stands.found_placed;
   clean = stands.clean;
-  blocks = each_after_failed (λ world. (id : ℕ) → IsBlockId id → BlockStands (MatchesIf sound) (view_of world id) (block_books (entries id) (found id)) (cells id))
-      (λ world. (id : ℕ) → IsBlockId id → BlockStands (MatchesIf sound) (view_of world id) (block_books (entries id) (found id)) (cells id))
+  blocks = each_after_failed (λ world. (id : ℕ) → IsBlockId id → BlockStands (Fits known id) (view_of world id) (block_books (entries id) (found id)) (cells id))
+      (λ world. (id : ℕ) → IsBlockId id → BlockStands (Fits known id) (view_of world id) (block_books (entries id) (found id)) (cells id))
       call stands.blocks (λ world is has. has) (λ world is has. has);
   aside = each_after_failed DraftsAside DraftsAside call stands.aside (λ world is has. has) (λ world is has. has);
 }
 
 -- and shows nothing new
-pub looked_images : {told' : Option (List World)} {volumes' : ℕ} {entries : ℕ → Option Entry} {found : ℕ → List Leftover} {sound : Bool} {cells : Cells} →
-    PoolStands told' volumes' entries found sound cells → (image : Files) → CanLeave told' image → Quiet sound cells image
-looked_images {told' = told'} {entries = entries} {found = found} {sound = sound} {cells = cells} stands image leaves =
-    let whole : model.PoolStands (MatchesIf sound) told' (λ id. block_books (entries id) (found id)) cells =
+pub looked_images : {told' : Option (List World)} {volumes' : ℕ} {entries : ℕ → Option Entry} {found : ℕ → List Leftover} {known : Knowledge} {cells : Cells} →
+    PoolStands told' volumes' entries found known cells → (image : Files) → CanLeave told' image → Quiet known cells image
+looked_images {told' = told'} {entries = entries} {found = found} {known = known} {cells = cells} stands image leaves =
+    let whole : model.PoolStands (Fits known) told' (λ id. block_books (entries id) (found id)) cells =
     λ world is. record { blocks = stands.blocks world is; aside = stands.aside world is } in
     record {
-      allowed = stands_allows (MatchesIf sound) told' (λ id. block_books (entries id) (found id)) cells image whole leaves;
-      matching = stands_is_sound (MatchesIf sound) told' (λ id. block_books (entries id) (found id)) cells image whole leaves;
+      allowed = stands_allows (Fits known) told' (λ id. block_books (entries id) (found id)) cells image whole leaves;
+      matching = stands_is_sound (Fits known) told' (λ id. block_books (entries id) (found id)) cells image whole leaves;
       whole = leaves_whole stands image leaves;
     }
 
 -- no draft stands at a finalised file
-pub lend_free : {told : Option (List World)} {volumes : ℕ} {entries : ℕ → Option Entry} {found : ℕ → List Leftover} {sound : Bool} {cells : Cells} → PoolStands told volumes entries found sound cells →
+pub lend_free : {told : Option (List World)} {volumes : ℕ} {entries : ℕ → Option Entry} {found : ℕ → List Leftover} {known : Knowledge} {cells : Cells} → PoolStands told volumes entries found known cells →
     (id vol : ℕ) (f : File) → is_aside_file f ≡ false → NoDraftAt told vol (path_of id f)
 lend_free stands id vol f apart world is = aside_no_draft id vol f world apart (stands.aside world is)
 
@@ -77,17 +77,17 @@ told_file : {R : Type 0} (bytes : R → Option (List ℕ)) (lent : Option R) (co
 told_file bytes None content is = absurd cc
 told_file bytes (Some reader) content is = is
 
-module _ {told : Option (List World)} {volumes : ℕ} {entries : ℕ → Option Entry} {found : ℕ → List Leftover} {sound : Bool} {cells : Cells} (stands : PoolStands told volumes entries found sound cells)
+module _ {told : Option (List World)} {volumes : ℕ} {entries : ℕ → Option Entry} {found : ℕ → List Leftover} {known : Knowledge} {cells : Cells} (stands : PoolStands told volumes entries found known cells)
     (id : ℕ) (valid : IsBlockId id) (e : Entry) (has : entries id ≡ Some e) where
   agrees_here : Agrees (Some (book_entry e)) (cells id)
   agrees_here = subst (λ (o : Option Entry). Agrees (option_map book_entry o) (cells id)) has (stands.agrees id valid)
 
   -- in each world the replica's pair stands
-  pair_stands : (replica : Replica) → cells id ≡ final replica → (world : World) → IsWorldOf told world → PairStands (MatchesIf sound) (view_of world id) e.vol replica
+  pair_stands : (replica : Replica) → cells id ≡ final replica → (world : World) → IsWorldOf told world → PairStands (Fits known id) (view_of world id) e.vol replica
   pair_stands replica cell_is world there =
-      let own : BlockStands (MatchesIf sound) (view_of world id) (block_books (Some e) (found id)) (final replica) =
-      subst (BlockStands (MatchesIf sound) (view_of world id) (block_books (Some e) (found id))) cell_is
-      (subst (λ (o : Option Entry). BlockStands (MatchesIf sound) (view_of world id) (block_books o (found id)) (cells id)) has (stands.blocks world there id valid)) in
+      let own : BlockStands (Fits known id) (view_of world id) (block_books (Some e) (found id)) (final replica) =
+      subst (BlockStands (Fits known id) (view_of world id) (block_books (Some e) (found id))) cell_is
+      (subst (λ (o : Option Entry). BlockStands (Fits known id) (view_of world id) (block_books o (found id)) (cells id)) has (stands.blocks world there id valid)) in
       own.content.0
 
   -- so the reader of the block file tells the replica's bytes
@@ -102,7 +102,7 @@ module _ {told : Option (List World)} {volumes : ℕ} {entries : ℕ → Option 
   -- and that of the meta file the bytes that match them
   lent_meta : {R : Type 0} (told' : Option (List World)) (bytes : R → Option (List ℕ)) (lent : Option R) (replica : Replica) → cells id ≡ final replica → e.stamp ≡ replica.stamp →
       PicksOne (λ w. w.settled e.vol (path_of id (meta e.stamp)) ≡ file_of bytes lent) (λ w. w) told told' →
-      ((all : List ℕ) → reader_bytes bytes lent ≡ Some all → length all < 2 ^ 64) → IsSome told → IsMetaOf sound (reader_bytes bytes lent) replica.bytes
+      ((all : List ℕ) → reader_bytes bytes lent ≡ Some all → length all < 2 ^ 64) → IsSome told → IsMetaOf known id (reader_bytes bytes lent) replica
   lent_meta told' bytes lent replica cell_is stamp_is call limit tells =
       let list = told_list told tells in
       let picked = call.picked list.0 list.1 in
@@ -114,13 +114,13 @@ module _ {told : Option (List World)} {volumes : ℕ} {entries : ℕ → Option 
       record { content = pair.content; is = tells_it; few = limit pair.content tells_it; matches = pair.matches }
 
 -- WHAT IS LENT: the block file, and then the meta file
-pub lends : {R : Type 0} {told told' told'' : Option (List World)} {volumes volumes' : ℕ} {entries : ℕ → Option Entry} {found : ℕ → List Leftover} {sound : Bool} {cells : Cells} →
-    PoolStands told volumes entries found sound cells → PoolStands told' volumes' entries found sound cells →
+pub lends : {R : Type 0} {told told' told'' : Option (List World)} {volumes volumes' : ℕ} {entries : ℕ → Option Entry} {found : ℕ → List Leftover} {known : Knowledge} {cells : Cells} →
+    PoolStands told volumes entries found known cells → PoolStands told' volumes' entries found known cells →
     (id : ℕ) → IsBlockId id → (e : Entry) → entries id ≡ Some e → e.state ≡ Finalised → (bytes : R → Option (List ℕ)) (lent lent' : Option R) →
     PicksOne (λ w. w.settled e.vol (path_of id block) ≡ file_of bytes lent) (λ w. w) told told' →
     PicksOne (λ w. w.settled e.vol (path_of id (meta e.stamp)) ≡ file_of bytes lent') (λ w. w) told' told'' →
     ((all : List ℕ) → reader_bytes bytes lent' ≡ Some all → length all < 2 ^ 64) →
-    Lends sound told (cells id) e.stamp e.len (reader_bytes bytes lent) (reader_bytes bytes lent')
+    Lends known id told (cells id) e.stamp e.len (reader_bytes bytes lent) (reader_bytes bytes lent')
 lends {told' = told'} {told'' = told''} {cells = cells} stands stands' id valid e has is bytes lent lent' first second limit =
     let cell = final_cell (cells id) e is (agrees_here stands id valid e has) in
     record {

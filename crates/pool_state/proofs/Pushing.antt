@@ -4,8 +4,8 @@ use Rattle.std.specs.Prelude.{nat_le}
 use Rattle.std.proofs.lemmas.Bool.{cases_eq, eq-eqb, ne_eqb}
 use Rattle.std.proofs.lemmas.Bool.Decides.{nat_tests}
 use Rattle.disk_model.specs.Worlds.{World}
-use Rattle.map_model.specs.Cells.{Cells, growing}
-use Rattle.map_model.specs.Sound.{MatchesIf}
+use Rattle.map_model.specs.Cells.{Replica, Cells, growing}
+use Rattle.map_model.specs.Sound.{Fits}
 use Rattle.map_model.specs.Steps.{Step, push, done}
 use Rattle.map_model.specs.Slots.{View}
 use Rattle.map_model.specs.Stands.{Agrees, BlockStands, Leftover}
@@ -30,7 +30,7 @@ push_step : (stamp left : ℕ) (bytes piece : List ℕ) → length piece ≤ lef
 push_step stamp left bytes piece within = rw (fits left (length piece) within) (refl, rw (at_most left (length piece) within) refl)
 
 -- a growing block's files don't depend on how far it has grown
-grown : (M : List ℕ → List ℕ → Type 0) (view : View) (entry : Option Entry) (left_files : List Leftover) (stamp left left' : ℕ) (bytes bytes' : List ℕ) →
+grown : (M : List ℕ → Replica → Type 0) (view : View) (entry : Option Entry) (left_files : List Leftover) (stamp left left' : ℕ) (bytes bytes' : List ℕ) →
     Agrees (option_map book_entry entry) (growing stamp None bytes' left') →
     BlockStands M view (block_books entry left_files) (growing stamp None bytes left) → BlockStands M view (block_books entry left_files) (growing stamp None bytes' left')
 grown M view entry left_files stamp left left' bytes bytes' agrees own = record {
@@ -59,7 +59,7 @@ pushes told volumes entries found cells w bytes piece stamp' len' reserved' belo
       step = subst (λ c. Step unlimited c (push piece) done (growing w.stamp None (bytes ++ piece) ((w.reserved - w.len) - length piece))) (sym grows)
           (push_step w.stamp (w.reserved - w.len) bytes piece within);
       says = ap (λ n. growing w.stamp None (bytes ++ piece) n) rest ∙ ap (λ s. growing s None (bytes ++ piece) (reserved' - len')) (sym same_stamp);
-      stands = λ sound stands. pool_stands stands w.id belongs.valid.0 Stays (reaches_same w.id told told refl) refl (Some entry) (found w.id)
+      stands = λ known stands. pool_stands stands w.id belongs.valid.0 Stays (reaches_same w.id told told refl) refl (Some entry) (found w.id)
           (growing w.stamp None (bytes ++ piece) ((w.reserved - w.len) - length piece))
           (λ other. elim (cases_eq other w.id) [
             | inl same ↦ rw (eq-eqb other w.id same) (ap entries same ∙ belongs.entry)
@@ -68,8 +68,8 @@ pushes told volumes entries found cells w bytes piece stamp' len' reserved' belo
           (found_kept w.id found found (λ other. refl))
           agrees (subst (λ (e : Option Entry). IfSome e (λ x. IsVolume volumes x.vol)) belongs.entry (stands.placed w.id belongs.valid.0))
           (stands.found_placed w.id belongs.valid.0) (λ waits_not. stands.clean w.id belongs.valid.0 (subst IsNotWaiting (sym belongs.entry) tt))
-          (λ before after stepped own. subst (λ v. BlockStands (MatchesIf sound) v (block_books (Some entry) (found w.id)) (growing w.stamp None (bytes ++ piece) ((w.reserved - w.len) - length piece))) (sym stepped)
-          (grown (MatchesIf sound) before (Some entry) (found w.id) w.stamp (w.reserved - w.len) ((w.reserved - w.len) - length piece) bytes (bytes ++ piece) agrees
-          (subst (BlockStands (MatchesIf sound) before (block_books (Some entry) (found w.id))) grows
-          (subst (λ (e : Option Entry). BlockStands (MatchesIf sound) before (block_books e (found w.id)) (cells w.id)) belongs.entry own))));
+          (λ before after stepped own. subst (λ v. BlockStands (Fits known w.id) v (block_books (Some entry) (found w.id)) (growing w.stamp None (bytes ++ piece) ((w.reserved - w.len) - length piece))) (sym stepped)
+          (grown (Fits known w.id) before (Some entry) (found w.id) w.stamp (w.reserved - w.len) ((w.reserved - w.len) - length piece) bytes (bytes ++ piece) agrees
+          (subst (BlockStands (Fits known w.id) before (block_books (Some entry) (found w.id))) grows
+          (subst (λ (e : Option Entry). BlockStands (Fits known w.id) before (block_books e (found w.id)) (cells w.id)) belongs.entry own))));
     }

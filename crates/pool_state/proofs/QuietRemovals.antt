@@ -13,7 +13,7 @@ use Rattle.disk_model.specs.Told.{CanLeave}
 use Rattle.volume_layout.specs.Paths.{IsBlockId}
 use Rattle.map_model.specs.Cells.{Cells, waiting}
 use Rattle.map_model.specs.Allows.{AllowsImage}
-use Rattle.map_model.specs.Sound.{MatchesIf}
+use Rattle.map_model.specs.Sound.{Knowledge, Fits}
 use Rattle.map_model.specs.Slots.{View, remove_in}
 use Rattle.map_model.specs.Stands.{Agrees, Entry as BookEntry, Leftover as BookLeftover, Each, HasNoPair, BlockStands}
 use Rattle.map_model.specs.Tenures.{books_of, Fails, gone, kept}
@@ -34,8 +34,8 @@ use Rattle.pool_state.proofs.Whole.{waiting_whole}
 use Rattle.pool_state.proofs.Starting.{with_cell-same}
 
 -- what is shown of a block whose cell stays
-pub shown_quiet : (sound : Bool) (cells : Cells) (id : ℕ) (image : Files) → Shown sound cells (with_cell cells id (cells id)) image → Quiet sound cells image
-shown_quiet sound cells id image shows = record {
+pub shown_quiet : (known : Knowledge) (cells : Cells) (id : ℕ) (image : Files) → Shown known cells (with_cell cells id (cells id)) image → Quiet known cells image
+shown_quiet known cells id image shows = record {
   allowed = elim shows.allowed [
     | inl before ↦ before
     | inr after ↦ subst (λ (cs : Cells). AllowsImage cs image) (with_cell-same cells id) after
@@ -44,29 +44,29 @@ shown_quiet sound cells id image shows = record {
   whole = shows.whole;
 }
 
-module _ {told : Option (List World)} {volumes : ℕ} {entries : ℕ → Option Entry} {found : ℕ → List BookLeftover} {sound : Bool} {cells : Cells}
-    (stands : PoolStands told volumes entries found sound cells) (id : ℕ) (valid : IsBlockId id) (e : Entry) (has : entries id ≡ Some e)
+module _ {told : Option (List World)} {volumes : ℕ} {entries : ℕ → Option Entry} {found : ℕ → List BookLeftover} {known : Knowledge} {cells : Cells}
+    (stands : PoolStands told volumes entries found known cells) (id : ℕ) (valid : IsBlockId id) (e : Entry) (has : entries id ≡ Some e)
     (front : List BookLeftover) (leftover : BookLeftover) (back : List BookLeftover) (listed : own_left (Some e) ++ found id ≡ front ++ leftover ∷ back) where
-  own_listed : (view : View) → BlockStands (MatchesIf sound) view (block_books (entries id) (found id)) (cells id) →
-      BlockStands (MatchesIf sound) view (books_of (Some (book_entry e)) (front ++ leftover ∷ back) None) (cells id)
-  own_listed view own = subst (λ l. BlockStands (MatchesIf sound) view (books_of (Some (book_entry e)) l None) (cells id)) listed
-      (subst (λ (o : Option Entry). BlockStands (MatchesIf sound) view (block_books o (found id)) (cells id)) has own)
+  own_listed : (view : View) → BlockStands (Fits known id) view (block_books (entries id) (found id)) (cells id) →
+      BlockStands (Fits known id) view (books_of (Some (book_entry e)) (front ++ leftover ∷ back) None) (cells id)
+  own_listed view own = subst (λ l. BlockStands (Fits known id) view (books_of (Some (book_entry e)) l None) (cells id)) listed
+      (subst (λ (o : Option Entry). BlockStands (Fits known id) view (block_books o (found id)) (cells id)) has own)
 
   -- a removal that fails leaves it listed
   fails_own : (before after : View) → Fails before (remove_in before leftover.vol leftover.file) after →
-      BlockStands (MatchesIf sound) before (block_books (entries id) (found id)) (cells id) → BlockStands (MatchesIf sound) after (block_books (entries id) (found id)) (cells id)
+      BlockStands (Fits known id) before (block_books (entries id) (found id)) (cells id) → BlockStands (Fits known id) after (block_books (entries id) (found id)) (cells id)
   fails_own before after fails own =
-      subst (λ (o : Option Entry). BlockStands (MatchesIf sound) after (block_books o (found id)) (cells id)) (sym has)
-      (subst (λ l. BlockStands (MatchesIf sound) after (books_of (Some (book_entry e)) l None) (cells id)) (sym listed)
-      (removes_stands (MatchesIf sound) before (Some (book_entry e)) front leftover back None (cells id) after (front ++ leftover ∷ back)
+      subst (λ (o : Option Entry). BlockStands (Fits known id) after (block_books o (found id)) (cells id)) (sym has)
+      (subst (λ l. BlockStands (Fits known id) after (books_of (Some (book_entry e)) l None) (cells id)) (sym listed)
+      (removes_stands (Fits known id) before (Some (book_entry e)) front leftover back None (cells id) after (front ++ leftover ∷ back)
       (own_listed before own) (kept after fails)))
 
   -- one that was done takes it off
   gone_own : (before after : View) → after ≡ remove_in before leftover.vol leftover.file →
-      BlockStands (MatchesIf sound) before (block_books (entries id) (found id)) (cells id) → BlockStands (MatchesIf sound) after (books_of (Some (book_entry e)) (front ++ back) None) (cells id)
+      BlockStands (Fits known id) before (block_books (entries id) (found id)) (cells id) → BlockStands (Fits known id) after (books_of (Some (book_entry e)) (front ++ back) None) (cells id)
   gone_own before after stepped own =
-      subst (λ v. BlockStands (MatchesIf sound) v (books_of (Some (book_entry e)) (front ++ back) None) (cells id)) (sym stepped)
-      (removes_stands (MatchesIf sound) before (Some (book_entry e)) front leftover back None (cells id) (remove_in before leftover.vol leftover.file) (front ++ back)
+      subst (λ v. BlockStands (Fits known id) v (books_of (Some (book_entry e)) (front ++ back) None) (cells id)) (sym stepped)
+      (removes_stands (Fits known id) before (Some (book_entry e)) front leftover back None (cells id) (remove_in before leftover.vol leftover.file) (front ++ back)
       (own_listed before own) gone)
 
   placed_here : IsVolume volumes e.vol
@@ -103,28 +103,28 @@ module _ {told : Option (List World)} {volumes : ℕ} {entries : ℕ → Option 
   cell_waits = let waits = waits_by e.state refl in waiting_cell (cells id) e waits.0 waits.1 waits.2 agrees_here
 
   -- and has no pair
-  no_pair : (view : View) → BlockStands (MatchesIf sound) view (books_of (Some (book_entry e)) (front ++ back) None) (cells id) → HasNoPair view
-  no_pair view own = (subst (BlockStands (MatchesIf sound) view (books_of (Some (book_entry e)) (front ++ back) None)) cell_waits own).content
+  no_pair : (view : View) → BlockStands (Fits known id) view (books_of (Some (book_entry e)) (front ++ back) None) (cells id) → HasNoPair view
+  no_pair view own = (subst (BlockStands (Fits known id) view (books_of (Some (book_entry e)) (front ++ back) None)) cell_waits own).content
 
   module _ (told' : Option (List World)) (volumes' : ℕ) (same_volumes : volumes' ≡ volumes) where
     -- the removal failed
     module _ (reaches : Reaches id (λ before after. Fails before (remove_in before leftover.vol leftover.file) after) told told') where
-      pub failed_stands : PoolStands told' volumes' entries found sound cells
-      failed_stands = subst (PoolStands told' volumes' entries found sound) (with_cell-same cells id)
+      pub failed_stands : PoolStands told' volumes' entries found known cells
+      failed_stands = subst (PoolStands told' volumes' entries found known) (with_cell-same cells id)
           (pool_stands stands id valid _ reaches same_volumes (entries id) (found id) (cells id) (λ other. elim (cases_eq other id) [
             | inl same ↦ rw (eq-eqb other id same) (ap entries same)
             | inr apart ↦ rw (ne_eqb other id apart) refl
           ]) (found_kept id found found (λ other. refl)) (stands.agrees id valid) (stands.placed id valid) (stands.found_placed id valid) (stands.clean id valid) fails_own)
 
-      pub failed_images : (image : Files) → CanLeave told' image → Quiet sound cells image
-      failed_images image leaves = shown_quiet sound cells id image
+      pub failed_images : (image : Files) → CanLeave told' image → Quiet known cells image
+      failed_images image leaves = shown_quiet known cells id image
           (shown stands id valid (λ before after. Fails before (remove_in before leftover.vol leftover.file) after) told' reaches (cells id)
           (λ before after stepped own. at_books stands id valid after (cells id) (cells id) (entries id) (found id) (stands.clean id valid) (fails_own before after stepped own) (λ read allows. inl allows)) image leaves)
 
     -- it was done
     module _ (reaches : Reaches id (λ before after. after ≡ remove_in before leftover.vol leftover.file) told told') where
-      pub removed_images : (image : Files) → CanLeave told' image → Quiet sound cells image
-      removed_images image leaves = shown_quiet sound cells id image
+      pub removed_images : (image : Files) → CanLeave told' image → Quiet known cells image
+      removed_images image leaves = shown_quiet known cells id image
           (shown stands id valid (λ before after. after ≡ remove_in before leftover.vol leftover.file) told' reaches (cells id)
           (λ before after stepped own. record {
             books = books_of (Some (book_entry e)) (front ++ back) None;
@@ -138,13 +138,13 @@ module _ {told : Option (List World)} {volumes : ℕ} {entries : ℕ → Option 
       pub removed_stands : (entries' : ℕ → Option Entry) (found' : ℕ → List BookLeftover) (entry : Entry) (left : List BookLeftover) →
           ((other : ℕ) → entries' other ≡ (if other == id then Some entry else entries other)) → ((other : ℕ) → found' other ≡ (if other == id then left else found other)) →
           book_entry entry ≡ book_entry e → own_left (Some entry) ++ left ≡ front ++ back → IsVolume volumes entry.vol → Each (λ l. IsVolume volumes l.vol) left →
-          (IsNotWaiting (Some entry) → left ≡ []) → PoolStands told' volumes' entries' found' sound cells
+          (IsNotWaiting (Some entry) → left ≡ []) → PoolStands told' volumes' entries' found' known cells
       removed_stands entries' found' entry left changed left_changed same rest entry_placed left_placed clean =
-          subst (PoolStands told' volumes' entries' found' sound) (with_cell-same cells id)
+          subst (PoolStands told' volumes' entries' found' known) (with_cell-same cells id)
           (pool_stands stands id valid _ reaches same_volumes (Some entry) left (cells id) changed left_changed
           (subst (λ (b : BookEntry). Agrees (Some b) (cells id)) (sym same) agrees_here) entry_placed left_placed clean
-          (λ before after stepped own. subst (λ (b : BookEntry). BlockStands (MatchesIf sound) after (books_of (Some b) (own_left (Some entry) ++ left) None) (cells id)) (sym same)
-          (subst (λ l. BlockStands (MatchesIf sound) after (books_of (Some (book_entry e)) l None) (cells id)) (sym rest) (gone_own before after stepped own))))
+          (λ before after stepped own. subst (λ (b : BookEntry). BlockStands (Fits known id) after (books_of (Some b) (own_left (Some entry) ++ left) None) (cells id)) (sym same)
+          (subst (λ l. BlockStands (Fits known id) after (books_of (Some (book_entry e)) l None) (cells id)) (sym rest) (gone_own before after stepped own))))
 
 -- what a waiting entry lists, by what may be left
 pub lists_block : (e : Entry) (meta : Bool) (found : List BookLeftover) → e.state ≡ Waiting true meta →
@@ -159,23 +159,23 @@ pub still_waits : (e : Entry) (l m l' m' : Bool) → e.state ≡ Waiting l m →
 still_waits e l m l' m' is = ap (λ s. record { stamp = e.stamp; len = e.len; vol = e.vol; rev = 0; state = s }) (sym (ap entry_state is))
 
 -- an entry's volume is one of the pool's
-pub entry_placed : {told : Option (List World)} {volumes : ℕ} {entries : ℕ → Option Entry} {found : ℕ → List BookLeftover} {sound : Bool} {cells : Cells} →
-    PoolStands told volumes entries found sound cells → (id : ℕ) → IsBlockId id → (e : Entry) → entries id ≡ Some e → IsVolume volumes e.vol
+pub entry_placed : {told : Option (List World)} {volumes : ℕ} {entries : ℕ → Option Entry} {found : ℕ → List BookLeftover} {known : Knowledge} {cells : Cells} →
+    PoolStands told volumes entries found known cells → (id : ℕ) → IsBlockId id → (e : Entry) → entries id ≡ Some e → IsVolume volumes e.vol
 entry_placed {volumes = volumes} stands id valid e has = subst (λ (o : Option Entry). IfSome o (λ x. IsVolume volumes x.vol)) has (stands.placed id valid)
 
 -- nothing changes
-pub quiet_same : {told : Option (List World)} {volumes : ℕ} {entries entries' : ℕ → Option Entry} {found found' : ℕ → List BookLeftover} {sound : Bool} {cells : Cells} →
-    PoolStands told volumes entries found sound cells → ((other : ℕ) → entries' other ≡ entries other) → ((other : ℕ) → found' other ≡ found other) →
-    PoolStands told volumes entries' found' sound cells
-quiet_same {told = told} {volumes = volumes} {entries = entries} {found' = found'} {sound = sound} {cells = cells} stands same same_found =
-    subst (λ es. PoolStands told volumes es found' sound cells) (sym (fun_ext same))
-    (subst (λ fs. PoolStands told volumes entries fs sound cells) (sym (fun_ext same_found)) stands)
+pub quiet_same : {told : Option (List World)} {volumes : ℕ} {entries entries' : ℕ → Option Entry} {found found' : ℕ → List BookLeftover} {known : Knowledge} {cells : Cells} →
+    PoolStands told volumes entries found known cells → ((other : ℕ) → entries' other ≡ entries other) → ((other : ℕ) → found' other ≡ found other) →
+    PoolStands told volumes entries' found' known cells
+quiet_same {told = told} {volumes = volumes} {entries = entries} {found' = found'} {known = known} {cells = cells} stands same same_found =
+    subst (λ es. PoolStands told volumes es found' known cells) (sym (fun_ext same))
+    (subst (λ fs. PoolStands told volumes entries fs known cells) (sym (fun_ext same_found)) stands)
 
 -- two quiet tenures, one after the other
 pub both_quiet : {cells : Cells} {Stood Between StandsFor : Bool → Cells → Type 0} {past mid since : ℕ → Files → Type 0} →
     IsQuiet cells Stood Between past mid → IsQuiet cells Between StandsFor mid since → IsQuiet cells Stood StandsFor past since
 both_quiet first second = record {
-  stands = λ sound old. second.stands sound (first.stands sound old);
+  stands = λ known old. second.stands known (first.stands known old);
   images = adds_join first.images second.images;
   sound_images = λ old. adds_join (first.sound_images old) (second.sound_images (first.stands true old));
   whole_images = adds_join first.whole_images second.whole_images;
@@ -227,8 +227,8 @@ pub record OneFound (told : Option (List World)) (volumes : ℕ) (entries : ℕ 
   pub rest_placed : Each (λ l. IsVolume volumes l.vol) (of_block id (drop (suc at) files))
   pub clean : IsNotWaiting (Some entry) → of_block id (drop (suc at) files) ≡ []
 
-pub one_found : {told : Option (List World)} {volumes : ℕ} {entries : ℕ → Option Entry} {found : ℕ → List BookLeftover} {sound : Bool} {cells : Cells} →
-    PoolStands told volumes entries found sound cells → (id : ℕ) → IsBlockId id → (files : List Leftover) (at : ℕ) → found id ≡ of_block id files →
+pub one_found : {told : Option (List World)} {volumes : ℕ} {entries : ℕ → Option Entry} {found : ℕ → List BookLeftover} {known : Knowledge} {cells : Cells} →
+    PoolStands told volumes entries found known cells → (id : ℕ) → IsBlockId id → (files : List Leftover) (at : ℕ) → found id ≡ of_block id files →
     (first : IsFirstOf id files at) (leftover : Leftover) → leftover ≡ get_or files at leftover → OneFound told volumes entries id files at leftover
 one_found {volumes = volumes} {entries = entries} stands id valid files at is first leftover read =
     let same : first.leftover ≡ leftover = sym (get_or_from_slice_get files at first.leftover leftover first.is) ∙ sym read in

@@ -1,5 +1,5 @@
 -- What a crash can leave while a tenure changes one block.
-use Rattle.std.proofs.Common.{◌≡◌, ◌⊎◌, inl, inr, ℕ, Bool, true, false, Option, List, [], sym, subst}
+use Rattle.std.proofs.Common.{◌≡◌, ◌⊎◌, inl, inr, ℕ, Option, List, [], refl, sym, subst}
 use Rattle.std.proofs.lemmas.Bool.{cases_eq, eq-eqb, ne_eqb}
 use Rattle.disk_model.specs.Files.{Files}
 use Rattle.disk_model.specs.Worlds.{World}
@@ -10,7 +10,7 @@ use Rattle.map_model.specs.World.{DraftsAside}
 use Rattle.map_model.specs.Cells.{Replica, Cell, Cells}
 use Rattle.map_model.specs.Copies.{Spot, BlockFiles, block_files, IsCopy, IsAlone, OneWhole}
 use Rattle.map_model.specs.Allows.{Allows, AllowsFiles, AllowsImage}
-use Rattle.map_model.specs.Sound.{MatchesIf, HasSoundCopies, IsSoundBy}
+use Rattle.map_model.specs.Sound.{Knowledge, nothing, matching, Fits, HasSoundCopies, IsSoundBy}
 use Rattle.map_model.specs.Slots.{View, files_in, view_of}
 use Rattle.map_model.specs.Stands.{Leftover, BlockBooks, BlockStands}
 use Rattle.map_model.specs.Steps.{Command, Reply, Step}
@@ -25,9 +25,9 @@ use Rattle.pool_state.specs.Stands.{with_cell, IsNotWaiting, PoolStands}
 use Rattle.pool_state.proofs.Whole.{IsWholeIn, block_whole}
 
 -- an image is allowed by the cells before or after, its copies match, and each is whole
-pub record Shown (sound : Bool) (before after : Cells) (image : Files) : Type 0 where
+pub record Shown (known : Knowledge) (before after : Cells) (image : Files) : Type 0 where
   pub allowed : AllowedByEither before after image
-  pub matching : IsSoundBy (MatchesIf sound) image
+  pub matching : IsSoundBy (Fits known) image
   pub whole : OneWhole image
 
 -- of images, no more is added at the beginning
@@ -56,41 +56,41 @@ adds_join first second t image s = elim (second t image s) [
   | inr now ↦ inr now
 ]
 
-module _ {told : Option (List World)} {volumes : ℕ} {entries : ℕ → Option Entry} {found : ℕ → List Leftover} {sound : Bool} {cells : Cells}
-    (stands : PoolStands told volumes entries found sound cells) (id : ℕ) (valid : IsBlockId id) where
+module _ {told : Option (List World)} {volumes : ℕ} {entries : ℕ → Option Entry} {found : ℕ → List Leftover} {known : Knowledge} {cells : Cells}
+    (stands : PoolStands told volumes entries found known cells) (id : ℕ) (valid : IsBlockId id) where
   -- At a moment the block's files stand for some cell, a copy of it is whole, and what the cell allows is allowed by the cell
   -- before or by this one.
   pub record At (after : View) (cell : Cell) : Type 0 where
     pub books : BlockBooks
     pub mid : Cell
-    pub stood : BlockStands (MatchesIf sound) after books mid
+    pub stood : BlockStands (Fits known id) after books mid
     pub whole : IsWholeIn after
     pub allows : (read : Option Replica) → Allows mid read → Allows (cells id) read ⊎ Allows cell read
 
   abbrev pub Passes : (View → View → Type 0) → Cell → Type 0
-  Passes step cell = (before after : View) → step before after → BlockStands (MatchesIf sound) before (block_books (entries id) (found id)) (cells id) → At after cell
+  Passes step cell = (before after : View) → step before after → BlockStands (Fits known id) before (block_books (entries id) (found id)) (cells id) → At after cell
 
   -- by an entry and the files that the opening found
   pub at_books : (after : View) (cell mid : Cell) (entry : Option Entry) (left : List Leftover) → (IsNotWaiting entry → left ≡ []) →
-      BlockStands (MatchesIf sound) after (block_books entry left) mid → ((read : Option Replica) → Allows mid read → Allows (cells id) read ⊎ Allows cell read) → At after cell
+      BlockStands (Fits known id) after (block_books entry left) mid → ((read : Option Replica) → Allows mid read → Allows (cells id) read ⊎ Allows cell read) → At after cell
   at_books after cell mid entry left clean stood allows = record {
     books = block_books entry left;
     mid = mid;
     stood = stood;
-    whole = block_whole (MatchesIf sound) after entry left mid stood clean;
+    whole = block_whole (Fits known id) after entry left mid stood clean;
     allows = allows;
   }
 
   -- at the end they stand for the cell itself
   pub passes_end : (step : View → View → Type 0) (cell : Cell) (entry : Option Entry) (left : List Leftover) → (IsNotWaiting entry → left ≡ []) →
-      ((before after : View) → step before after → BlockStands (MatchesIf sound) before (block_books (entries id) (found id)) (cells id) → BlockStands (MatchesIf sound) after (block_books entry left) cell) →
+      ((before after : View) → step before after → BlockStands (Fits known id) before (block_books (entries id) (found id)) (cells id) → BlockStands (Fits known id) after (block_books entry left) cell) →
       Passes step cell
   passes_end step cell entry left clean own before after stepped was = at_books after cell cell entry left clean (own before after stepped was) (λ read allows. inr allows)
 
   -- where nothing changes
   pub stays_passes : Passes (λ before after. after ≡ before) (cells id)
   stays_passes before after stepped was = at_books after (cells id) (cells id) (entries id) (found id) (stands.clean id valid)
-      (subst (λ (v : View). BlockStands (MatchesIf sound) v (block_books (entries id) (found id)) (cells id)) (sym stepped) was)
+      (subst (λ (v : View). BlockStands (Fits known id) v (block_books (entries id) (found id)) (cells id)) (sym stepped) was)
       (λ read allows. inl allows)
 
   module _ (step : View → View → Type 0) (told' : Option (List World)) (reaches : Reaches id step told told') where
@@ -102,36 +102,36 @@ module _ {told : Option (List World)} {volumes : ℕ} {entries : ℕ → Option 
 
     -- another block's files allow what its cell allows, match, and are whole
     others_allow : (world : World) (is : IsWorldOf told' world) (other : ℕ) → IsBlockId other → (id ≡ other → ⊥) →
-        AllowsFiles (cells other) (files_in (view_of world other)) × (HasSoundCopies (MatchesIf sound) (files_in (view_of world other)) × IsWholeIn (view_of world other))
+        AllowsFiles (cells other) (files_in (view_of world other)) × (HasSoundCopies (Fits known other) (files_in (view_of world other)) × IsWholeIn (view_of world other))
     others_allow world is other valid_other apart =
         let from : ComesFrom id step told world = came world is in
         let own = stands.blocks from.was from.is other valid_other in
         let books : BlockBooks = block_books (entries other) (found other) in
-        subst (λ (v : View). AllowsFiles (cells other) (files_in v) × (HasSoundCopies (MatchesIf sound) (files_in v) × IsWholeIn v)) (sym (from.others other valid_other apart)) (
-          block_allows (MatchesIf sound) (view_of from.was other) books (cells other) own,
+        subst (λ (v : View). AllowsFiles (cells other) (files_in v) × (HasSoundCopies (Fits known other) (files_in v) × IsWholeIn v)) (sym (from.others other valid_other apart)) (
+          block_allows (Fits known other) (view_of from.was other) books (cells other) own,
           (
-            block_is_sound (MatchesIf sound) (view_of from.was other) books (cells other) own,
-            block_whole (MatchesIf sound) (view_of from.was other) (entries other) (found other) (cells other) own (stands.clean other valid_other),
+            block_is_sound (Fits known other) (view_of from.was other) books (cells other) own,
+            block_whole (Fits known other) (view_of from.was other) (entries other) (found other) (cells other) own (stands.clean other valid_other),
           ),
         )
 
     module _ (cell : Cell) (passes : Passes step cell) where
       own_allow : (world : World) (is : IsWorldOf told' world) →
           (AllowsFiles (cells id) (files_in (view_of world id)) ⊎ AllowsFiles cell (files_in (view_of world id)))
-          × (HasSoundCopies (MatchesIf sound) (files_in (view_of world id)) × IsWholeIn (view_of world id))
+          × (HasSoundCopies (Fits known id) (files_in (view_of world id)) × IsWholeIn (view_of world id))
       own_allow world is =
           let from : ComesFrom id step told world = came world is in
           let at : At (view_of world id) cell = passes (view_of from.was id) (view_of world id) from.stepped (stands.blocks from.was from.is id valid) in
-          let allows = block_allows (MatchesIf sound) (view_of world id) at.books at.mid at.stood in (
+          let allows = block_allows (Fits known id) (view_of world id) at.books at.mid at.stood in (
             elim (at.allows allows.read allows.allowed) [
               | inl before ↦ inl (record { read = allows.read; reads = allows.reads; allowed = before })
               | inr after ↦ inr (record { read = allows.read; reads = allows.reads; allowed = after })
             ],
-            (block_is_sound (MatchesIf sound) (view_of world id) at.books at.mid at.stood, at.whole),
+            (block_is_sound (Fits known id) (view_of world id) at.books at.mid at.stood, at.whole),
           )
 
       -- what a crash can leave at this moment
-      pub shown : (image : Files) → CanLeave told' image → Shown sound cells (with_cell cells id cell) image
+      pub shown : (image : Files) → CanLeave told' image → Shown known cells (with_cell cells id cell) image
       shown image leaves =
           let world : World = leaves.0 in
           let is = leaves.1 in
@@ -152,9 +152,9 @@ module _ {told : Option (List World)} {volumes : ℕ} {entries : ℕ → Option 
               ])
               | inr after ↦ inr (at cell after)
             ];
-            matching = λ other valid_other. subst (λ (f : BlockFiles). HasSoundCopies (MatchesIf sound) f) (sym (files other))
+            matching = λ other valid_other. subst (λ (f : BlockFiles). HasSoundCopies (Fits known other) f) (sym (files other))
                 (elim (cases_eq other id) [
-                  | inl same ↦ subst (λ n. HasSoundCopies (MatchesIf sound) (files_in (view_of world n))) (sym same) own.1.0
+                  | inl same ↦ subst (λ n. HasSoundCopies (Fits known n) (files_in (view_of world n))) (sym same) own.1.0
                   | inr apart ↦ (others_allow world is other valid_other (λ e. apart (sym e))).1.0
                 ]);
             whole = λ other valid_other. subst (λ (f : BlockFiles). (spot : Spot) (replica : Replica) → IsCopy f spot replica → IsAlone f spot) (sym (files other))
@@ -164,30 +164,38 @@ module _ {told : Option (List World)} {volumes : ℕ} {entries : ℕ → Option 
                 ]);
           }
 
--- A step of the cells, from what holds whether the disks began sound or not.
-pub takes : {id : ℕ} {command : Command} {answer : Reply} {Says : Cell → Type 0} {cells : Cells} {Stood StandsFor : Bool → Cells → Type 0} {past since : ℕ → Files → Type 0}
+-- A step of the cells, from what holds whatever is known of the meta files, and what more is known then.
+pub takes_learning : (learn : Knowledge → Knowledge) → learn matching ≡ matching → {id : ℕ} {command : Command} {answer : Reply} {Says : Cell → Type 0} {cells : Cells}
+    {Stood StandsFor : Knowledge → Cells → Type 0} {past since : ℕ → Files → Type 0}
     (cell : Cell) → Step unlimited (cells id) command answer cell → Says cell →
-    ((sound : Bool) → Stood sound cells → StandsFor sound (with_cell cells id cell) × AddsOnly past since (Shown sound cells (with_cell cells id cell))) →
-    Stood false cells → TakesStep id command answer Says cells Stood StandsFor past since
-takes cell step says run stood = record {
-  to = record { cell = cell; step = step; says = says; stands = λ sound old. (run sound old).0 };
-  images = adds_less (run false stood).1 (λ image shows. shows.allowed);
-  sound_images = λ old. adds_less (run true old).1 (λ image shows. shows.matching);
-  whole_images = adds_less (run false stood).1 (λ image shows. shows.whole);
+    ((known : Knowledge) → Stood known cells → StandsFor known (with_cell cells id cell) × AddsOnly past since (Shown (learn known) cells (with_cell cells id cell))) →
+    Stood nothing cells → TakesStep id command answer Says cells Stood StandsFor past since
+takes_learning learn same cell step says run stood = record {
+  to = record { cell = cell; step = step; says = says; stands = λ known old. (run known old).0 };
+  images = adds_less (run nothing stood).1 (λ image shows. shows.allowed);
+  sound_images = λ old. adds_less (run matching old).1 (λ image shows. subst (λ (k : Knowledge). IsSoundBy (Fits k) image) same shows.matching);
+  whole_images = adds_less (run nothing stood).1 (λ image shows. shows.whole);
 }
 
+-- a step after which no more is known
+pub takes : {id : ℕ} {command : Command} {answer : Reply} {Says : Cell → Type 0} {cells : Cells} {Stood StandsFor : Knowledge → Cells → Type 0} {past since : ℕ → Files → Type 0}
+    (cell : Cell) → Step unlimited (cells id) command answer cell → Says cell →
+    ((known : Knowledge) → Stood known cells → StandsFor known (with_cell cells id cell) × AddsOnly past since (Shown known cells (with_cell cells id cell))) →
+    Stood nothing cells → TakesStep id command answer Says cells Stood StandsFor past since
+takes = takes_learning (λ known. known) refl
+
 -- an image that the cells allow, that matches, and each of whose copies is whole
-pub record Quiet (sound : Bool) (cells : Cells) (image : Files) : Type 0 where
+pub record Quiet (known : Knowledge) (cells : Cells) (image : Files) : Type 0 where
   pub allowed : AllowsImage cells image
-  pub matching : IsSoundBy (MatchesIf sound) image
+  pub matching : IsSoundBy (Fits known) image
   pub whole : OneWhole image
 
-pub rests : {cells : Cells} {Stood StandsFor : Bool → Cells → Type 0} {past since : ℕ → Files → Type 0} →
-    ((sound : Bool) → Stood sound cells → StandsFor sound cells × AddsOnly past since (Quiet sound cells)) →
-    Stood false cells → IsQuiet cells Stood StandsFor past since
+pub rests : {cells : Cells} {Stood StandsFor : Knowledge → Cells → Type 0} {past since : ℕ → Files → Type 0} →
+    ((known : Knowledge) → Stood known cells → StandsFor known cells × AddsOnly past since (Quiet known cells)) →
+    Stood nothing cells → IsQuiet cells Stood StandsFor past since
 rests run stood = record {
-  stands = λ sound old. (run sound old).0;
-  images = adds_less (run false stood).1 (λ image shows. shows.allowed);
-  sound_images = λ old. adds_less (run true old).1 (λ image shows. shows.matching);
-  whole_images = adds_less (run false stood).1 (λ image shows. shows.whole);
+  stands = λ known old. (run known old).0;
+  images = adds_less (run nothing stood).1 (λ image shows. shows.allowed);
+  sound_images = λ old. adds_less (run matching old).1 (λ image shows. shows.matching);
+  whole_images = adds_less (run nothing stood).1 (λ image shows. shows.whole);
 }

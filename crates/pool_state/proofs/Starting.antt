@@ -7,7 +7,7 @@ use Rattle.disk_model.specs.Worlds.{World}
 use Rattle.disk_model.specs.Told.{NoDraftAt}
 use Rattle.volume_layout.specs.Paths.{IsBlockId, IsStamp}
 use Rattle.map_model.specs.Cells.{Cell, Cells, absent, final, growing, unsure, waiting}
-use Rattle.map_model.specs.Sound.{MatchesIf}
+use Rattle.map_model.specs.Sound.{Knowledge, Fits}
 use Rattle.map_model.specs.Steps.{Step, start_write, write_refusal, Reply, failed, memory, done}
 use Rattle.map_model.specs.Slots.{File, writing_block, writing_meta, is_file, is_standing, path_of, View, view_of, create_in}
 use Rattle.map_model.specs.Stands.{Agrees, WritesOver, IsInDoubt, is_final, is_waiting, BlockStands, Leftover}
@@ -35,15 +35,15 @@ with_cell-same cells id = fun_ext (λ other. elim (cases_eq other id) [
 ])
 
 -- where neither the disks' worlds nor the books changed
-pub stands_same : (told told' : Option (List World)) (volumes volumes' : ℕ) (entries entries' : ℕ → Option Entry) (found found' : ℕ → List Leftover) (sound : Bool) (cells : Cells) (id : ℕ) →
-    PoolStands told volumes entries found sound cells → told' ≡ told → volumes' ≡ volumes → ((other : ℕ) → entries' other ≡ entries other) → ((other : ℕ) → found' other ≡ found other) →
-    PoolStands told' volumes' entries' found' sound (with_cell cells id (cells id))
-stands_same told told' volumes volumes' entries entries' found found' sound cells id stands told_is volumes_is entries_are found_is =
-    subst (λ t. PoolStands t volumes' entries' found' sound (with_cell cells id (cells id))) (sym told_is)
-    (subst (λ n. PoolStands told n entries' found' sound (with_cell cells id (cells id))) (sym volumes_is)
-    (subst (λ es. PoolStands told volumes es found' sound (with_cell cells id (cells id))) (sym (fun_ext entries_are))
-    (subst (λ fs. PoolStands told volumes entries fs sound (with_cell cells id (cells id))) (sym (fun_ext found_is))
-    (subst (PoolStands told volumes entries found sound) (sym (with_cell-same cells id)) stands))))
+pub stands_same : (told told' : Option (List World)) (volumes volumes' : ℕ) (entries entries' : ℕ → Option Entry) (found found' : ℕ → List Leftover) (known : Knowledge) (cells : Cells) (id : ℕ) →
+    PoolStands told volumes entries found known cells → told' ≡ told → volumes' ≡ volumes → ((other : ℕ) → entries' other ≡ entries other) → ((other : ℕ) → found' other ≡ found other) →
+    PoolStands told' volumes' entries' found' known (with_cell cells id (cells id))
+stands_same told told' volumes volumes' entries entries' found found' known cells id stands told_is volumes_is entries_are found_is =
+    subst (λ t. PoolStands t volumes' entries' found' known (with_cell cells id (cells id))) (sym told_is)
+    (subst (λ n. PoolStands told n entries' found' known (with_cell cells id (cells id))) (sym volumes_is)
+    (subst (λ es. PoolStands told volumes es found' known (with_cell cells id (cells id))) (sym (fun_ext entries_are))
+    (subst (λ fs. PoolStands told volumes entries fs known (with_cell cells id (cells id))) (sym (fun_ext found_is))
+    (subst (PoolStands told volumes entries found known) (sym (with_cell-same cells id)) stands))))
 
 -- no entry means absent
 pub absent_cell : (cell : Cell) → Agrees None cell → cell ≡ absent
@@ -108,7 +108,7 @@ starter stamp need vol b m = record { vol = vol; stamp = stamp; len = need; rev 
 abbrev pub entry_in : (id stamp need vol : ℕ) → State → Entry
 entry_in id stamp need vol state = record { id = id; stamp = stamp; len = need; vol = vol; state = state }
 
-module _ {told : Option (List World)} {volumes : ℕ} {entries : ℕ → Option Entry} {cells : Cells} {found : ℕ → List Leftover} {sound : Bool} (stands : PoolStands told volumes entries found sound cells)
+module _ {told : Option (List World)} {volumes : ℕ} {entries : ℕ → Option Entry} {cells : Cells} {found : ℕ → List Leftover} {known : Knowledge} (stands : PoolStands told volumes entries found known cells)
     (id : ℕ) (valid : IsBlockId id) where
   -- the answer to a block that has an entry
   pub start_refused : (entry : Entry) (stamp need : ℕ) (fault : StartFault) → entries id ≡ Some entry → fault ≡ write_fault entry.state →
@@ -130,13 +130,13 @@ module _ {told : Option (List World)} {volumes : ℕ} {entries : ℕ → Option 
     is_absent = absent_cell (cells id) (subst (λ (e : Option Entry). Agrees (option_map book_entry e) (cells id)) none (stands.agrees id valid))
 
     -- the block's files in a world are those of an absent one
-    pub own_absent : (view : View) → BlockStands (MatchesIf sound) view (block_books (entries id) (found id)) (cells id) → BlockStands (MatchesIf sound) view (books_of None [] None) absent
+    pub own_absent : (view : View) → BlockStands (Fits known id) view (block_books (entries id) (found id)) (cells id) → BlockStands (Fits known id) view (books_of None [] None) absent
     own_absent view own =
-        subst (BlockStands (MatchesIf sound) view (books_of None [] None)) is_absent
-        (subst (λ left. BlockStands (MatchesIf sound) view (block_books None left) (cells id)) no_files
-        (subst (λ (e : Option Entry). BlockStands (MatchesIf sound) view (block_books e (found id)) (cells id)) none own))
+        subst (BlockStands (Fits known id) view (books_of None [] None)) is_absent
+        (subst (λ left. BlockStands (Fits known id) view (block_books None left) (cells id)) no_files
+        (subst (λ (e : Option Entry). BlockStands (Fits known id) view (block_books e (found id)) (cells id)) none own))
 
-    bare : (view : View) → BlockStands (MatchesIf sound) view (books_of None [] None) absent → (vol : ℕ) (f : File) → IsFalse (is_standing (view vol f))
+    bare : (view : View) → BlockStands (Fits known id) view (books_of None [] None) absent → (vol : ℕ) (f : File) → IsFalse (is_standing (view vol f))
     bare view own vol f = elim (cases_Bool (is_standing (view vol f))) [
       | inl stands_there ↦ elim (own.accounted vol f stands_there) [
         | inl (inl names) ↦ absurd names
@@ -172,11 +172,11 @@ module _ {told : Option (List World)} {volumes : ℕ} {entries : ℕ → Option 
       -- what a start that failed leaves of the block's files
       pub waits_own : (step : View → View → Type 0) (block_left meta_left : Bool) (b m : ℕ) →
           ((before after : View) → step before after → StartsWrite before None (starter stamp need vol b m) after (block_books (Some (entry_in id stamp need vol (Waiting block_left meta_left))) []) waiting) →
-          (before after : View) → step before after → BlockStands (MatchesIf sound) before (block_books (entries id) (found id)) (cells id) →
-          BlockStands (MatchesIf sound) after (block_books (Some (entry_in id stamp need vol (Waiting block_left meta_left))) (found id)) waiting
+          (before after : View) → step before after → BlockStands (Fits known id) before (block_books (entries id) (found id)) (cells id) →
+          BlockStands (Fits known id) after (block_books (Some (entry_in id stamp need vol (Waiting block_left meta_left))) (found id)) waiting
       waits_own step block_left meta_left b m starts before after stepped own =
-          subst (λ l. BlockStands (MatchesIf sound) after (block_books (Some (entry_in id stamp need vol (Waiting block_left meta_left))) l) waiting) (sym no_files)
-          (start_write_stands (MatchesIf sound) before None (starter stamp need vol b m) after (block_books (Some (entry_in id stamp need vol (Waiting block_left meta_left))) []) waiting
+          subst (λ l. BlockStands (Fits known id) after (block_books (Some (entry_in id stamp need vol (Waiting block_left meta_left))) l) waiting) (sym no_files)
+          (start_write_stands (Fits known id) before None (starter stamp need vol b m) after (block_books (Some (entry_in id stamp need vol (Waiting block_left meta_left))) []) waiting
           (own_absent before own) stamped tt (starts before after stepped))
 
       -- meanwhile nothing is read of it
@@ -194,7 +194,7 @@ module _ {told : Option (List World)} {volumes : ℕ} {entries : ℕ → Option 
         pub start_waits : (step : View → View → Type 0) (block_left meta_left : Bool) (b m : ℕ) → Reaches id step told told' →
             ((other : ℕ) → entries' other ≡ (if other == id then Some (entry_in id stamp need vol (Waiting block_left meta_left)) else entries other)) →
             ((before after : View) → step before after → StartsWrite before None (starter stamp need vol b m) after (block_books (Some (entry_in id stamp need vol (Waiting block_left meta_left))) []) waiting) →
-            PoolStands told' volumes' entries' found' sound (with_cell cells id waiting)
+            PoolStands told' volumes' entries' found' known (with_cell cells id waiting)
         start_waits step block_left meta_left b m reaches changed starts =
             pool_stands stands id valid step reaches same_volumes (Some (entry_in id stamp need vol (Waiting block_left meta_left))) (found id) waiting changed
             (found_kept id found found' same_found) refl (first, within) (stands.found_placed id valid) (λ e. absurd e) (waits_own step block_left meta_left b m starts)
@@ -202,18 +202,18 @@ module _ {told : Option (List World)} {volumes : ℕ} {entries : ℕ → Option 
         -- both drafts stand: the block grows
         grows_own : (b m : ℕ) (before after : View) →
             Then (λ v w. w ≡ create_in v vol writing_block b) (λ v w. w ≡ create_in v vol (writing_meta stamp) m) before after →
-            BlockStands (MatchesIf sound) before (block_books (entries id) (found id)) (cells id) →
-            BlockStands (MatchesIf sound) after (block_books (Some (entry_in id stamp need vol (Writing b m))) (found id)) (growing stamp None [] need)
+            BlockStands (Fits known id) before (block_books (entries id) (found id)) (cells id) →
+            BlockStands (Fits known id) after (block_books (Some (entry_in id stamp need vol (Writing b m))) (found id)) (growing stamp None [] need)
         grows_own b m before after stepped own =
-            subst (λ l. BlockStands (MatchesIf sound) after (block_books (Some (entry_in id stamp need vol (Writing b m))) l) (growing stamp None [] need)) (sym no_files)
-            (subst (λ v. BlockStands (MatchesIf sound) v (block_books (Some (entry_in id stamp need vol (Writing b m))) []) (growing stamp None [] need))
+            subst (λ l. BlockStands (Fits known id) after (block_books (Some (entry_in id stamp need vol (Writing b m))) l) (growing stamp None [] need)) (sym no_files)
+            (subst (λ v. BlockStands (Fits known id) v (block_books (Some (entry_in id stamp need vol (Writing b m))) []) (growing stamp None [] need))
             (sym (stepped.2 ∙ ap (λ v. create_in v vol (writing_meta stamp) m) stepped.1))
-            (start_write_stands (MatchesIf sound) before None (starter stamp need vol b m) (both_created before (starter stamp need vol b m)) (block_books (Some (entry_in id stamp need vol (Writing b m))) [])
+            (start_write_stands (Fits known id) before None (starter stamp need vol b m) (both_created before (starter stamp need vol b m)) (block_books (Some (entry_in id stamp need vol (Writing b m))) [])
             (growing stamp None [] need) (own_absent before own) stamped tt started))
 
         pub start_grows : (b m : ℕ) → Reaches id (Then (λ before after. after ≡ create_in before vol writing_block b) (λ before after. after ≡ create_in before vol (writing_meta stamp) m)) told told' →
             ((other : ℕ) → entries' other ≡ (if other == id then Some (entry_in id stamp need vol (Writing b m)) else entries other)) →
-            PoolStands told' volumes' entries' found' sound (with_cell cells id (growing stamp None [] need))
+            PoolStands told' volumes' entries' found' known (with_cell cells id (growing stamp None [] need))
         start_grows b m reaches changed =
             pool_stands stands id valid (Then (λ before after. after ≡ create_in before vol writing_block b) (λ before after. after ≡ create_in before vol (writing_meta stamp) m)) reaches
             same_volumes (Some (entry_in id stamp need vol (Writing b m))) (found id) (growing stamp None [] need) changed

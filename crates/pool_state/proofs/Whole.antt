@@ -7,7 +7,7 @@ use Rattle.disk_model.specs.Told.{CanLeave}
 use Rattle.map_model.specs.Cells.{Replica, Cell, Cells, absent, final, growing, unsure, waiting}
 use Rattle.map_model.specs.Copies.{Spot, BlockFiles, own_spot, IsCopy, IsAlone, OneWhole}
 use Rattle.map_model.specs.Slots.{File, block, meta, is_standing, View, files_in, view_of}
-use Rattle.map_model.specs.Sound.{MatchesIf}
+use Rattle.map_model.specs.Sound.{Knowledge, Fits}
 use Rattle.map_model.specs.Stands.{is_final, is_waiting, Entry as BookEntry, Leftover, StateNames, HasOwnLeftovers, IsListed, Agrees, WritesOver, IsInDoubt, HasNoPair, BlockStands}
 use Rattle.map_model.proofs.Owned.{IsOwn, own_file}
 use Rattle.map_model.proofs.Readings.{KeepsStamp-meta}
@@ -98,10 +98,10 @@ block_whole M view (Some e) found (unsure x y cut) stands clean spot replica cop
 block_whole M view (Some e) found waiting stands clean spot replica copy = waiting_whole view stands.content spot replica copy
 
 -- what the disks can leave now
-pub leaves_whole : {told : Option (List World)} {volumes : ℕ} {entries : ℕ → Option Entry} {found : ℕ → List Leftover} {sound : Bool} {cells : Cells} →
-    PoolStands told volumes entries found sound cells → (image : Files) → CanLeave told image → OneWhole image
-leaves_whole {told} {volumes} {entries} {found} {sound} {cells} stands image leaves id valid =
+pub leaves_whole : {told : Option (List World)} {volumes : ℕ} {entries : ℕ → Option Entry} {found : ℕ → List Leftover} {known : Knowledge} {cells : Cells} →
+    PoolStands told volumes entries found known cells → (image : Files) → CanLeave told image → OneWhole image
+leaves_whole {told} {volumes} {entries} {found} {known} {cells} stands image leaves id valid =
     let world = leaves.0 in
     subst (λ (files : BlockFiles). (spot : Spot) (replica : Replica) → IsCopy files spot replica → IsAlone files spot)
     (sym (image_files world image id (stands.aside world leaves.1) leaves.2))
-    (block_whole (MatchesIf sound) (view_of world id) (entries id) (found id) (cells id) (stands.blocks world leaves.1 id valid) (stands.clean id valid))
+    (block_whole (Fits known id) (view_of world id) (entries id) (found id) (cells id) (stands.blocks world leaves.1 id valid) (stands.clean id valid))

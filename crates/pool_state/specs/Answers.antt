@@ -4,7 +4,7 @@ use Rattle.disk_model.specs.Files.{Files}
 use Rattle.disk_model.specs.Moments.{AddsOnly}
 use Rattle.map_model.specs.Allows.{AllowsImage}
 use Rattle.map_model.specs.Copies.{OneWhole}
-use Rattle.map_model.specs.Sound.{IsSound}
+use Rattle.map_model.specs.Sound.{Knowledge, matching, IsSound}
 use Rattle.map_model.specs.Cells.{Cell, Cells}
 use Rattle.map_model.specs.Steps.{Command, Room, Step}
 use Rattle.map_model.specs.Steps.{Reply, done, exists, no_block, is_writing, is_waiting, is_unsure, failed, memory}
@@ -71,27 +71,27 @@ AllowedByEither before after image = AllowsImage before image ⊎ AllowsImage af
 
 -- A step of the cells: the block's cell becomes one that the command, answered so, may leave and of which more is said; and
 -- what stood for the cells then stands for the new ones.
-pub record StepsTo (id : ℕ) (command : Command) (answer : Reply) (Says : Cell → Type 0) (cells : Cells) (Stood StandsFor : Bool → Cells → Type 0) : Type 0 where
+pub record StepsTo (id : ℕ) (command : Command) (answer : Reply) (Says : Cell → Type 0) (cells : Cells) (Stood StandsFor : Knowledge → Cells → Type 0) : Type 0 where
   pub cell : Cell
   pub step : Step unlimited (cells id) command answer cell
   pub says : Says cell
-  pub stands : (sound : Bool) → Stood sound cells → StandsFor sound (with_cell cells id cell)
+  pub stands : (known : Knowledge) → Stood known cells → StandsFor known (with_cell cells id cell)
 
 -- A tenure takes a step of the cells; and every image that a crash can leave meanwhile is allowed by the cells before or after,
--- is sound where the disks began sound, and has one whole copy of each block at most.
+-- is sound where each meta matched, and has one whole copy of each block at most.
 pub record TakesStep (id : ℕ) (command : Command) (answer : Reply) (Says : Cell → Type 0) (cells : Cells)
-    (Stood StandsFor : Bool → Cells → Type 0) (past since : ℕ → Files → Type 0) : Type 0 where
+    (Stood StandsFor : Knowledge → Cells → Type 0) (past since : ℕ → Files → Type 0) : Type 0 where
   pub to : StepsTo id command answer Says cells Stood StandsFor
   pub images : AddsOnly past since (AllowedByEither cells (with_cell cells id to.cell))
-  pub sound_images : Stood true cells → AddsOnly past since IsSound
+  pub sound_images : Stood matching cells → AddsOnly past since IsSound
   pub whole_images : AddsOnly past since OneWhole
 
 -- A tenure is quiet: what stood for the cells stands for them, and every image that a crash can leave meanwhile is allowed by them,
--- is sound where the disks began sound, and has one whole copy of each block at most.
-pub record IsQuiet (cells : Cells) (Stood StandsFor : Bool → Cells → Type 0) (past since : ℕ → Files → Type 0) : Type 0 where
-  pub stands : (sound : Bool) → Stood sound cells → StandsFor sound cells
+-- is sound where each meta matched, and has one whole copy of each block at most.
+pub record IsQuiet (cells : Cells) (Stood StandsFor : Knowledge → Cells → Type 0) (past since : ℕ → Files → Type 0) : Type 0 where
+  pub stands : (known : Knowledge) → Stood known cells → StandsFor known cells
   pub images : AddsOnly past since (AllowsImage cells)
-  pub sound_images : Stood true cells → AddsOnly past since IsSound
+  pub sound_images : Stood matching cells → AddsOnly past since IsSound
   pub whole_images : AddsOnly past since OneWhole
 
 -- the number was given between these two next numbers

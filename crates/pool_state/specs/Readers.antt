@@ -1,10 +1,10 @@
 -- What the readers of a pair that was lent give.
-use Rattle.std.specs.Prelude.{ℕ, ◌≡◌, ◌<◌, ◌^◌, ◌⊎◌, Bool, List, [], length, Option, Some, None, IsSome, IsSomeAnd}
+use Rattle.std.specs.Prelude.{ℕ, ◌≡◌, ◌<◌, ◌^◌, ◌⊎◌, List, [], length, Option, Some, None, IsSome, IsSomeAnd}
 use Rattle.disk_model.specs.Worlds.{World}
 use Rattle.disk_model.specs.Told.{InEachWorld}
 use Rattle.map_model.specs.Cells.{Replica, Cell, final}
 use Rattle.map_model.specs.Slots.{block, meta, path_of}
-use Rattle.map_model.specs.Sound.{MatchesIf}
+use Rattle.map_model.specs.Sound.{Knowledge, Fits}
 use Rattle.pool_state.specs.declared.read_pair.ReadPair.{ReadPair}
 
 -- the bytes that an optional reader gives, where it tells them; none is read as a file without bytes
@@ -20,23 +20,23 @@ block_bytes bytes pair = reader_bytes bytes pair.block
 abbrev pub meta_bytes : {D S T R : Type 0} → (R → Option (List ℕ)) → ReadPair D S T R → Option (List ℕ)
 meta_bytes bytes pair = reader_bytes bytes pair.meta
 
--- these bytes are told, fewer than 2^64, and match a replica's bytes where the disks began sound
-pub record IsMetaOf (sound : Bool) (told : Option (List ℕ)) (bytes : List ℕ) : Type 0 where
+-- these bytes are told, fewer than 2^64, and are what is known of the replica's meta file
+pub record IsMetaOf (known : Knowledge) (id : ℕ) (told : Option (List ℕ)) (replica : Replica) : Type 0 where
   pub content : List ℕ
   pub is : told ≡ Some content
   pub few : length content < 2 ^ 64
-  pub matches : MatchesIf sound content bytes
+  pub matches : Fits known id content replica
 
--- The cell is final; this is the replica's stamp and length, and where the disks tell, these are its bytes and those of its
+-- The block's cell is final; this is the replica's stamp and length, and where the disks tell, these are its bytes and those of its
 -- meta file.
-pub record Lends (sound : Bool) (told : Option (List World)) (cell : Cell) (stamp len : ℕ)
+pub record Lends (known : Knowledge) (id : ℕ) (told : Option (List World)) (cell : Cell) (stamp len : ℕ)
     (bytes sums : Option (List ℕ)) : Type 0 where
   pub replica : Replica
   pub cell_is : cell ≡ final replica
   pub stamp_is : stamp ≡ replica.stamp
   pub len_is : len ≡ length replica.bytes
   pub bytes_are : IsSome told → bytes ≡ Some replica.bytes
-  pub meta_is : IsSome told → IsMetaOf sound sums replica.bytes
+  pub meta_is : IsSome told → IsMetaOf known id sums replica
 
 -- the file that an optional reader is of: none where there is no reader, else the bytes that it tells
 abbrev pub file_of : {R : Type 0} → (R → Option (List ℕ)) → Option R → Option (List ℕ)

@@ -8,7 +8,7 @@ use Rattle.disk_model.specs.Worlds.{World}
 use Rattle.disk_model.specs.Told.{InEachWorld}
 use Rattle.volume_layout.specs.Paths.{IsBlockId}
 use Rattle.map_model.specs.World.{DraftsAside}
-use Rattle.map_model.specs.Sound.{MatchesIf}
+use Rattle.map_model.specs.Sound.{Knowledge, nothing, Fits}
 use Rattle.map_model.specs.Cells.{Cell, Cells}
 use Rattle.map_model.specs.Slots.{File, is_standing, view_of}
 use Rattle.map_model.specs.Stands.{Agrees, Leftover, Each, BlockStands}
@@ -38,15 +38,15 @@ IsNotWaiting None = Unit {0}
 IsNotWaiting (Some entry) = IsNoWait entry.state
 
 -- Disks and books stand for cells: each entry says what its block's cell says, and in each world the files of each block stand
--- for its cell and its books; the opening found files of waiting blocks alone. Where the disks began sound, the meta file of each replica matches its bytes.
-pub record PoolStands (told : Option (List World)) (volumes : ℕ) (entries : ℕ → Option Entry) (found : ℕ → List Leftover) (sound : Bool) (cells : Cells) : Type 0 where
+-- for its cell and its books; the opening found files of waiting blocks alone. The meta file of each replica is as it is known.
+pub record PoolStands (told : Option (List World)) (volumes : ℕ) (entries : ℕ → Option Entry) (found : ℕ → List Leftover) (known : Knowledge) (cells : Cells) : Type 0 where
   pub some_volume : 1 ≤ volumes
   pub agrees : (id : ℕ) → IsBlockId id → Agrees (option_map book_entry (entries id)) (cells id)
   pub placed : (id : ℕ) → IsBlockId id → IfSome (entries id) (λ entry. IsVolume volumes entry.vol)
   pub found_placed : (id : ℕ) → IsBlockId id → Each (λ leftover. IsVolume volumes leftover.vol) (found id)
   pub clean : (id : ℕ) → IsBlockId id → IsNotWaiting (entries id) → found id ≡ []
   pub blocks : InEachWorld told (λ world. (id : ℕ) → IsBlockId id →
-      BlockStands (MatchesIf sound) (view_of world id) (block_books (entries id) (found id)) (cells id))
+      BlockStands (Fits known id) (view_of world id) (block_books (entries id) (found id)) (cells id))
   pub aside : InEachWorld told DraftsAside
 
 -- no file of a block stands in any world, and every draft stands aside
@@ -63,10 +63,10 @@ pub record GoesOn {D S T R : Type 0} (g : Ghosts D S T R) (old new : D) : Type 0
   pub volume_count : g.volume_count new ≡ g.volume_count old
 
 module _ {D S T R : Type 0} {g : Ghosts D S T R} {d : drafts.Ghosts T S} {s : sealed.Ghosts S} {r : readers.Ghosts R} where
-  -- a pool stands for cells, its disks having begun sound or not
-  abbrev pub Stands : Pool D S T R g d s r → Bool → Cells → Type 0
+  -- a pool stands for cells, of whose meta files so much is known
+  abbrev pub Stands : Pool D S T R g d s r → Knowledge → Cells → Type 0
   Stands pool = PoolStands (g.worlds pool.disks) (g.volume_count pool.disks) (entry_at pool.map) (found_at pool.map)
 
   -- a pool stands for some cells
   abbrev pub StandsForSome : Pool D S T R g d s r → Type 0
-  StandsForSome pool = (cells : Cells) × Stands pool false cells
+  StandsForSome pool = (cells : Cells) × Stands pool nothing cells

@@ -1,8 +1,8 @@
 -- When writers and sealed pairs belong to a pool.
-use Rattle.std.specs.Prelude.{ℕ, ◌≡◌, List, Option, Some}
+use Rattle.std.specs.Prelude.{ℕ, ◌≡◌, List, ◌++◌, Option, Some}
 use Rattle.disk_model.specs.Worlds.{World, draft_at}
 use Rattle.volume_layout.specs.Paths.{IsBlockId, IsStamp, rbw_block, rbw_meta}
-use Rattle.pair_draft.specs.Writers.{Writer, Pair, HasPushed, HasSealed}
+use Rattle.pair_draft.specs.Writers.{Writer, Pair, HasPushed, HasSealed, meta_header}
 use Rattle.pool_state.specs.declared.entry.Entry.{Entry}
 use Rattle.pool_state.specs.declared.entry.State.TheVariants.{Writing as is_writing}
 
@@ -39,3 +39,7 @@ pub record PairStands (told : Option (List World)) (entries : ℕ → Option Ent
   pub block : p.block ≡ draft_at block_number p.vol (rbw_block p.id)
   pub meta : p.meta ≡ draft_at meta_number p.vol (rbw_meta p.id p.stamp)
   pub sealed : HasSealed told p bytes
+
+-- the bytes of its meta file
+abbrev pub meta_of : {told : Option (List World)} {entries : ℕ → Option Entry} {p : Pair} {bytes : List ℕ} → PairStands told entries p bytes → List ℕ
+meta_of belongs = meta_header ++ belongs.sealed.sums

@@ -1,7 +1,8 @@
 //! Deleting a block.
-ghost use Rattle.std.specs.Prelude.{◌≡◌, ◌≢◌, ℕ, false, None, Some, IfSome, IsErr, IsOk, IsErrOf};
+ghost use Rattle.std.specs.Prelude.{◌≡◌, ◌≢◌, ℕ, None, Some, IfSome, IsErr, IsOk, IsErrOf};
 ghost use Rattle.disk_model.specs.Causes.{Rose};
 ghost use Rattle.map_model.specs.Cells.{Cells};
+ghost use Rattle.map_model.specs.Sound.{nothing};
 ghost use Rattle.map_model.specs.Steps.{Step, delete, delete_refusal};
 ghost use Rattle.pool_state.specs.Answers.{unlimited, delete_fault};
 ghost use Rattle.pool_state.specs.Tenures.{Deletes, state_refusal};
@@ -31,9 +32,9 @@ pub enum DeleteFault {
 impl<D: PoolDisks> Pool<D> {
     /// Why a deletion of a block would be refused; none where it has files to be deleted, and no writer.
     pub fn delete_refusal(&self, id: BlockId) -> Option<DeleteFault>
-        ensures refused { (cells : Cells) → Stands self.now false cells →
+        ensures refused { (cells : Cells) → Stands self.now nothing cells →
             IfSome result (λ fault. Step unlimited (cells id) delete (delete_fault fault) (cells id)) }
-        ensures none { (cells : Cells) → Stands self.now false cells → result ≡ None → delete_refusal (cells id) ≡ None }
+        ensures none { (cells : Cells) → Stands self.now nothing cells → result ≡ None → delete_refusal (cells id) ≡ None }
         ensures valid { IsBlockId id }
         ensures not_failed { IfSome result (λ fault. fault ≢ DeleteFault.Failed) }
     {
@@ -47,7 +48,7 @@ impl<D: PoolDisks> Pool<D> {
     /// doubt, and any other block is as before. It takes no memory.
     pub fn delete(&mut self, id: BlockId) -> Result<(), DeleteFault>
         requires stands { StandsForSome self.old }
-        ensures step { (cells : Cells) → Stands self.old false cells → Deletes id result cells self.old self.new }
+        ensures step { (cells : Cells) → Stands self.old nothing cells → Deletes id result cells self.old self.new }
         ensures others { (other : ℕ) → other ≢ id → entry_at self.new.map other ≡ entry_at self.old.map other }
         ensures goes_on { GoesOn D.PoolDisks self.old.disks self.new.disks }
         ensures failed { IsErrOf result DeleteFault.Failed → Rose (D.faults self.old.disks) (D.faults self.new.disks) }
@@ -68,7 +69,7 @@ impl<D: PoolDisks> Pool<D> {
         requires entry { entry_at self.old.map id ≡ Some entry.now }
         requires state { entry.now.state ≡ Finalised }
         requires stands { StandsForSome self.old }
-        ensures step { (cells : Cells) → Stands self.old false cells → Deletes id result cells self.old self.new }
+        ensures step { (cells : Cells) → Stands self.old nothing cells → Deletes id result cells self.old self.new }
         ensures others { (other : ℕ) → other ≢ id → entry_at self.new.map other ≡ entry_at self.old.map other }
         ensures goes_on { GoesOn D.PoolDisks self.old.disks self.new.disks }
         ensures failed { IsErr result → Rose (D.faults self.old.disks) (D.faults self.new.disks) }
@@ -91,7 +92,7 @@ impl<D: PoolDisks> Pool<D> {
         requires entry { entry_at self.old.map id ≡ Some entry.now }
         requires state { entry.now.state ≡ Unsure }
         requires stands { StandsForSome self.old }
-        ensures step { (cells : Cells) → Stands self.old false cells → Deletes id result cells self.old self.new }
+        ensures step { (cells : Cells) → Stands self.old nothing cells → Deletes id result cells self.old self.new }
         ensures others { (other : ℕ) → other ≢ id → entry_at self.new.map other ≡ entry_at self.old.map other }
         ensures goes_on { GoesOn D.PoolDisks self.old.disks self.new.disks }
         ensures failed { IsErr result → Rose (D.faults self.old.disks) (D.faults self.new.disks) }
@@ -122,7 +123,7 @@ impl<D: PoolDisks> Pool<D> {
         requires entry { entry_at self.old.map id ≡ Some entry.now }
         requires state { entry.now.state ≡ Waiting block meta }
         requires stands { StandsForSome self.old }
-        ensures step { (cells : Cells) → Stands self.old false cells → Deletes id result cells self.old self.new }
+        ensures step { (cells : Cells) → Stands self.old nothing cells → Deletes id result cells self.old self.new }
         ensures others { (other : ℕ) → other ≢ id → entry_at self.new.map other ≡ entry_at self.old.map other }
         ensures goes_on { GoesOn D.PoolDisks self.old.disks self.new.disks }
         ensures failed { IsErr result → Rose (D.faults self.old.disks) (D.faults self.new.disks) }

@@ -2,13 +2,14 @@
 ghost use Rattle.std.specs.Prelude.{◌≡◌, ◌≢◌, ℕ, List, None, Some, false, IsErr, IsOk};
 ghost use Rattle.disk_model.specs.Causes.{Rose};
 ghost use Rattle.map_model.specs.Cells.{Cells, absent, final, growing, unsure, waiting};
+ghost use Rattle.map_model.specs.Sound.{nothing};
 ghost use Rattle.map_model.specs.Steps.{Command, Step, finish, drop_write, failed};
 ghost use Rattle.pool_state.specs.Answers.{unlimited, finish_reply, IsWritten};
 ghost use Rattle.pool_state.specs.Books.{entry_at};
-ghost use Rattle.pool_state.specs.Tenures.{Takes};
+ghost use Rattle.pool_state.specs.Tenures.{Takes, PairBelongs, Finishes};
 ghost use Rattle.pool_state.specs.Stands.{Stands, StandsForSome, GoesOn};
-ghost use Rattle.pair_draft.specs.Writers.{pair_of, writer_of};
-ghost use Rattle.pool_state.specs.Writers.{PairStands, WriterBelongs};
+ghost use Rattle.pair_draft.specs.Writers.{writer_of};
+ghost use Rattle.pool_state.specs.Writers.{meta_of, WriterBelongs};
 
 use crate::entry::{Entry, State};
 use crate::pool_record::Pool;
@@ -20,14 +21,9 @@ impl<D: PoolDisks> Pool<D> {
     /// Finishes a fresh write: publishes its meta file, then its block. Where that fails the block is in doubt. It takes no memory.
     pub fn finish(&mut self, pair: SealedPair<D>) -> Result<(), Failed>
         requires stands { StandsForSome self.old }
-        requires belongs { (bytes : List ℕ) × PairStands (D.worlds self.old.disks) (entry_at self.old.map) (pair_of D.Sealed.place D.Sealed.bytes pair) bytes }
-        ensures step { (cells : Cells) (bytes : List ℕ) (left : ℕ) → Stands self.old false cells →
-            PairStands (D.worlds self.old.disks) (entry_at self.old.map) (pair_of D.Sealed.place D.Sealed.bytes pair) bytes →
-            cells pair.id ≡ growing pair.stamp None bytes left →
-            Takes pair.id finish (finish_reply result)
-            (λ cell. (IsErr result → cell ≡ unsure None (Some (record { stamp = pair.stamp; bytes = bytes })) false)
-            × (IsOk result → cell ≡ final (record { stamp = pair.stamp; bytes = bytes })))
-            cells self.old self.new }
+        requires belongs { (bytes : List ℕ) × PairBelongs self.old pair bytes }
+        ensures step { (cells : Cells) (bytes : List ℕ) (left : ℕ) (belongs : PairBelongs self.old pair bytes) → Stands self.old nothing cells →
+            cells pair.id ≡ growing pair.stamp None bytes left → Finishes pair.id pair.stamp result bytes (meta_of belongs) cells self.old self.new }
         ensures others { (other : ℕ) → other ≢ pair.id → entry_at self.new.map other ≡ entry_at self.old.map other }
         ensures goes_on { GoesOn D.PoolDisks self.old.disks self.new.disks }
         ensures failed { IsErr result → Rose (D.faults self.old.disks) (D.faults self.new.disks) }
@@ -69,7 +65,7 @@ impl<D: PoolDisks> Pool<D> {
     pub fn drop_write(&mut self, writer: Writing<D>) -> Result<(), Failed>
         requires stands { StandsForSome self.old }
         requires belongs { WriterBelongs (entry_at self.old.map) (writer_of D.Draft.place D.Draft.bytes writer) }
-        ensures step { (cells : Cells) (bytes : List ℕ) (left : ℕ) → Stands self.old false cells →
+        ensures step { (cells : Cells) (bytes : List ℕ) (left : ℕ) → Stands self.old nothing cells →
             cells writer.id ≡ growing writer.stamp None bytes left →
             Takes writer.id drop_write (finish_reply result)
             (λ cell. (IsErr result → cell ≡ waiting) × (IsOk result → cell ≡ absent))
@@ -113,7 +109,7 @@ impl<D: PoolDisks> Pool<D> {
     /// and takes no memory.
     pub fn fail_write(&mut self, writer: Writing<D>)
         requires writes { IsWritten (entry_at self.old.map writer.id) }
-        ensures step { (cells : Cells) (command : Command) (stamp left : ℕ) (bytes : List ℕ) → Stands self.old false cells →
+        ensures step { (cells : Cells) (command : Command) (stamp left : ℕ) (bytes : List ℕ) → Stands self.old nothing cells →
             cells writer.id ≡ growing stamp None bytes left → Step unlimited (growing stamp None bytes left) command failed waiting →
             Takes writer.id command failed (λ cell. cell ≡ waiting) cells self.old self.new }
         ensures others { (other : ℕ) → other ≢ writer.id → entry_at self.new.map other ≡ entry_at self.old.map other }

@@ -1,6 +1,7 @@
 //! A pool: its disks and its books.
-ghost use Rattle.std.specs.Prelude.{◌≡◌, ◌≤◌, Bool};
+ghost use Rattle.std.specs.Prelude.{◌≡◌, ◌≤◌};
 ghost use Rattle.map_model.specs.Cells.{absent};
+ghost use Rattle.map_model.specs.Sound.{Knowledge};
 ghost use Rattle.pool_state.specs.Stands.{Stands, HoldNoBlock};
 
 use crate::pool_record::Pool;
@@ -12,7 +13,7 @@ use std::alloc::Global;
 pub fn make_pool<D: PoolDisks>(alloc: Global, disks: D) -> Pool<D>
     requires some_volume { 1 ≤ D.volume_count disks }
     requires empty { HoldNoBlock (D.worlds disks) }
-    ensures stands { (sound : Bool) → Stands result sound (λ id. absent) }
+    ensures stands { (known : Knowledge) → Stands result known (λ id. absent) }
     ensures disks { result.disks ≡ disks }
 {
     Pool {

@@ -1,9 +1,10 @@
 //! The start of a read: readers of a replica's two files.
-ghost use Rattle.std.specs.Prelude.{◌≡◌, ◌⊎◌, ◌≤◌, ◌<◌, ◌^◌, ℕ, Bool, false, List, length, Some, IfOk, IfErr, IfSome, IsErrOf};
+ghost use Rattle.std.specs.Prelude.{◌≡◌, ◌⊎◌, ◌≤◌, ◌<◌, ◌^◌, ℕ, List, length, Some, IfOk, IfErr, IfSome, IsErrOf};
 ghost use Rattle.disk_model.specs.Causes.{Rose};
 ghost use Rattle.disk_model.specs.Moments.{AddsOnly};
 ghost use Rattle.disk_model.specs.Told.{NoDraftAt, CanLeave, PicksOne, StandsBeforeOrAfter};
 ghost use Rattle.map_model.specs.Cells.{Cells};
+ghost use Rattle.map_model.specs.Sound.{Knowledge, nothing};
 ghost use Rattle.map_model.specs.Slots.{path_of};
 ghost use Rattle.map_model.specs.Steps.{Step, read};
 ghost use Rattle.pool_state.specs.Answers.{unlimited, start_fault, read_fault, GivenBetween};
@@ -58,12 +59,12 @@ impl<D: PoolDisks> Pool<D> {
     pub fn start_read(&mut self, alloc: Global, id: BlockId) -> Result<ReadPair<D>, StartFault>
         requires stands { StandsForSome self.old }
         ensures map { self.new.map ≡ self.old.map }
-        ensures quiet { (cells : Cells) → Stands self.old false cells →
+        ensures quiet { (cells : Cells) → Stands self.old nothing cells →
             Rests cells self.old self.new }
-        ensures refused { (cells : Cells) → Stands self.old false cells →
+        ensures refused { (cells : Cells) → Stands self.old nothing cells →
             IfErr result (λ fault. Step unlimited (cells id) read (start_fault fault) (cells id)) }
-        ensures lent { (sound : Bool) (cells : Cells) → Stands self.old sound cells →
-            IfOk result (λ pair. Lends sound (D.worlds self.old.disks) (cells id) pair.stamp pair.len
+        ensures lent { (known : Knowledge) (cells : Cells) → Stands self.old known cells →
+            IfOk result (λ pair. Lends known id (D.worlds self.old.disks) (cells id) pair.stamp pair.len
             (block_bytes D.Reader.bytes pair) (meta_bytes D.Reader.bytes pair)) }
         ensures files { IfSome (entry_at self.old.map id) (λ entry. IfOk result (λ pair.
             AreFiles (D.worlds self.new.disks) id entry.vol entry.stamp

@@ -1,7 +1,8 @@
 //! The start of a fresh write.
-ghost use Rattle.std.specs.Prelude.{◌≡◌, ◌≢◌, ◌<◌, ◌≤◌, ℕ, ◌^◌, ◌⊎◌, false, [], None, Err, IsErr, IsOk, IfOk, IfSome, IsErrOf};
+ghost use Rattle.std.specs.Prelude.{◌≡◌, ◌≢◌, ◌<◌, ◌≤◌, ℕ, ◌^◌, ◌⊎◌, [], None, Err, IsErr, IsOk, IfOk, IfSome, IsErrOf};
 ghost use Rattle.disk_model.specs.Causes.{Rose};
 ghost use Rattle.map_model.specs.Cells.{Cells, absent, growing, waiting};
+ghost use Rattle.map_model.specs.Sound.{nothing};
 ghost use Rattle.map_model.specs.Steps.{Step, start_write, memory};
 ghost use Rattle.volume_layout.specs.Paths.{IsBlockId};
 ghost use Rattle.pool_state.specs.Answers.{unlimited, start_fault, start_reply, write_fault, GivenBetween};
@@ -22,10 +23,10 @@ use volume_layout::{BlockId, Stamp, rbw_block, rbw_meta};
 impl<D: PoolDisks> Pool<D> {
     /// Why a write of a block would be refused, whatever its stamp and length; none where the block is absent.
     pub fn write_refusal(&self, id: BlockId) -> Option<StartFault>
-        ensures refused { (cells : Cells) (stamp need : ℕ) → Stands self.now false cells →
+        ensures refused { (cells : Cells) (stamp need : ℕ) → Stands self.now nothing cells →
             IfSome result (λ fault. Step unlimited (cells id) (start_write stamp need) (start_fault fault) (cells id)) }
-        ensures absent { (cells : Cells) → Stands self.now false cells → result ≡ None → cells id ≡ absent }
-        ensures memory { (cells : Cells) (stamp need : ℕ) → need < 2 ^ 64 → Stands self.now false cells → result ≡ None →
+        ensures absent { (cells : Cells) → Stands self.now nothing cells → result ≡ None → cells id ≡ absent }
+        ensures memory { (cells : Cells) (stamp need : ℕ) → need < 2 ^ 64 → Stands self.now nothing cells → result ≡ None →
             Step unlimited (cells id) (start_write stamp need) memory (cells id) }
         ensures valid { IsBlockId id }
         ensures not_a_fault { IfSome result (λ fault. (fault ≢ StartFault.Failed) × (fault ≢ StartFault.Memory)) }
@@ -47,7 +48,7 @@ impl<D: PoolDisks> Pool<D> {
         need: u64,
     ) -> Result<Writing<D>, StartFault>
         requires stands { StandsForSome self.old }
-        ensures step { (cells : Cells) → Stands self.old false cells →
+        ensures step { (cells : Cells) → Stands self.old nothing cells →
             Takes id (start_write stamp need) (start_reply result)
             (λ cell. (result ≡ Err StartFault.Failed → cell ≡ waiting)
             × (result ≡ Err StartFault.Memory → cell ≡ waiting → D.next_number self.old.disks < D.next_number self.new.disks)

@@ -6,7 +6,7 @@ use Rattle.pool_state.specs.Books.{entry_at}
 use Rattle.pair_draft.specs.Writers.{writer_of}
 use Rattle.pool_state.proofs.Belonging.{writer_belongs}
 use Rattle.dn_play.specs.Standing.{NotGrowing, OpenWriter}
-use Rattle.dn_play.proofs.Stepping.{at_block, crash_takes, crash_same, goes_on, stays_on, carried_same, carried_on, seen_same, took, writer_of_block, no_writer_of_block}
+use Rattle.dn_play.proofs.Stepping.{loose, at_block, crash_takes, crash_same, goes_on, stays_on, carried_same, carried_on, seen_same, took, writer_of_block, no_writer_of_block}
 use Rattle.dn_play.proofs.Stepped.{no_drop, same_entries}
 use Rattle.dn_play.proofs.session.Session.drop_writer.Goals as goal
 
@@ -17,7 +17,7 @@ returns-in_default-clause-step g c state standing =
     let absent = sym c.in_default.ensures.found in
     let same = stays_on standing standing.pool (λ t. t) (λ other. refl) (seen_same f _ _ (same_entries id _ _ absent c.in_default.ensures.taken)) in
     carried_same same (crash_same _ _ _) no_writer (λ trust known. refl)
-    (no_drop (state.cells id) (no_writer_of_block _ _ _ (ap (option_map f) absent) (standing.writer id c.remove.ensures.valid))) (λ e. absurd cc) (λ e w. absurd cc) refl
+    (no_drop (state.cells id) (no_writer_of_block _ _ _ (ap (option_map f) absent) (standing.writer id c.remove.ensures.valid))) (λ e. absurd cc) (λ e w. absurd cc) refl refl
 
 pub drop_write-requires-clause-belongs : goal.drop_write-requires-clause-belongs
 drop_write-requires-clause-belongs g c =
@@ -33,13 +33,13 @@ returns-in-Ok-clause-step g c state standing =
     let w = c.in-Some.writer in
     let at = writer_of_block _ _ _ (f w) (ap (option_map f) (sym c.in-Some.ensures.found)) (standing.writer id c.remove.ensures.valid) in
     let grows : state.cells w.id ≡ growing w.stamp None at.bytes (w.reserved - w.len) = ap state.cells at.of ∙ at.grows in
-    let t = at_block at.of (c.in-Ok.ensures.step state.cells at.bytes (w.reserved - w.len) standing.pool grows) in
+    let t = at_block at.of (c.in-Ok.ensures.step state.cells at.bytes (w.reserved - w.len) (loose standing) grows) in
     let seen = took f id _ _ c.in-Some.ensures.taken in
     carried_on t.to.cell
     (goes_on standing id t.to.cell state.writers (t.to.stands _ standing.pool) c.in-Ok.ensures.goes_on.honest.1 (λ other apart. c.in-Ok.ensures.others other (λ e. apart (e ∙ at.of))) seen.0 (λ other apart. refl)
     (subst (λ o. MatchOption o (NotGrowing t.to.cell) (OpenWriter (g.D.PoolDisks.worlds c.drop_write.new.self.disks) (entry_at c.drop_write.new.self.map) id t.to.cell (state.writers id))) (sym seen.1)
     (subst NotGrowing (sym (t.to.says.1 refl)) tt)))
-    (crash_takes t) done (λ trust known. refl) t.to.step (λ e. absurd cc) (λ e x. absurd cc) refl
+    (crash_takes t) done (λ trust known. refl) t.to.step (λ e. absurd cc) (λ e x. absurd cc) refl refl
 
 pub returns-in-Err-clause-step : goal.returns-in-Err-clause-step
 returns-in-Err-clause-step g c state standing =
@@ -48,10 +48,10 @@ returns-in-Err-clause-step g c state standing =
     let w = c.in-Some.writer in
     let at = writer_of_block _ _ _ (f w) (ap (option_map f) (sym c.in-Some.ensures.found)) (standing.writer id c.remove.ensures.valid) in
     let grows : state.cells w.id ≡ growing w.stamp None at.bytes (w.reserved - w.len) = ap state.cells at.of ∙ at.grows in
-    let t = at_block at.of (c.in-Err.ensures.step state.cells at.bytes (w.reserved - w.len) standing.pool grows) in
+    let t = at_block at.of (c.in-Err.ensures.step state.cells at.bytes (w.reserved - w.len) (loose standing) grows) in
     let seen = took f id _ _ c.in-Some.ensures.taken in
     carried_on t.to.cell
     (goes_on standing id t.to.cell state.writers (t.to.stands _ standing.pool) c.in-Err.ensures.goes_on.honest.1 (λ other apart. c.in-Err.ensures.others other (λ e. apart (e ∙ at.of))) seen.0 (λ other apart. refl)
     (subst (λ o. MatchOption o (NotGrowing t.to.cell) (OpenWriter (g.D.PoolDisks.worlds c.drop_write.new.self.disks) (entry_at c.drop_write.new.self.map) id t.to.cell (state.writers id))) (sym seen.1)
     (subst NotGrowing (sym (t.to.says.0 refl)) tt)))
-    (crash_takes t) failed (λ trust known. refl) t.to.step (λ e. c.in-Err.ensures.failed refl) (λ e x. absurd cc) refl
+    (crash_takes t) failed (λ trust known. refl) t.to.step (λ e. c.in-Err.ensures.failed refl) (λ e x. absurd cc) refl refl

@@ -1,4 +1,4 @@
-use Rattle.std.proofs.Common.{◌≡◌, ◌-◌, inl, inr, None, refl, sym, ◌∙◌, ap, subst, option_map, true, false}
+use Rattle.std.proofs.Common.{◌≡◌, ◌-◌, inl, inr, None, refl, sym, ◌∙◌, ap, subst, option_map, false}
 use Rattle.std.specs.Prelude.{MatchOption, IsSome}
 use Rattle.map_model.specs.Cells.{growing}
 use Rattle.map_model.specs.Steps.{Step, finish, done, failed, memory, no_writer}
@@ -10,8 +10,10 @@ use Rattle.pool_state.specs.Stands.{PoolStands}
 use Rattle.pool_state.proofs.Belonging.{stands_sealed}
 use Rattle.pool_state.proofs.Starting.{with_cell-same}
 use Rattle.dn_play.specs.Standing.{NotGrowing, OpenWriter, faulty_of, mark_of}
-use Rattle.dn_play.proofs.Stepping.{at_block, crash_takes, crash_same, crash_only, goes_on, stays_on, carried_same, carried_on, seen_same, seen_some, put_back, took, writer_of_block, no_writer_of_block}
-use Rattle.dn_play.proofs.Stepped.{no_finish, memory_finish, failed_finish, has_meta, grows_not, faulty_writer}
+use Rattle.dn_play.proofs.Stepping.{loose, at_block, crash_takes, crash_same, crash_only, goes_on, stays_on, carried_same, carried_learning, carried_on, seen_same, seen_some, put_back, took, writer_of_block, no_writer_of_block}
+use Rattle.map_model.specs.Sound.{matching, exactly, with_meta}
+use Rattle.pool_state.specs.Writers.{meta_of}
+use Rattle.dn_play.proofs.Stepped.{learns_final, learns_doubt, learns_waiting, no_finish, memory_finish, failed_finish, has_meta, grows_not, faulty_writer}
 use Rattle.dn_play.proofs.session.Session.finish.Goals as goal
 
 pub returns-in-Err-clause-step : goal.returns-in-Err-clause-step
@@ -22,13 +24,13 @@ returns-in-Err-clause-step g c state standing =
     elim c.in-Err.ensures.refused [
       | inl absent ↦
           carried_same same (crash_same _ _ _) no_writer (λ trust known. absent.0)
-          (no_finish (state.cells id) (no_writer_of_block _ _ _ (ap (option_map f) absent.1) (standing.writer id c.take.ensures.valid))) (λ e. absurd cc) (λ e w. absurd cc) refl
+          (no_finish (state.cells id) (no_writer_of_block _ _ _ (ap (option_map f) absent.1) (standing.writer id c.take.ensures.valid))) (λ e. absurd cc) (λ e w. absurd cc) refl refl
       | inr wanting ↦
           let some = seen_some _ wanting.1 in
           let at = writer_of_block _ _ _ (f some.0) (ap (option_map f) some.1) (standing.writer id c.take.ensures.valid) in
           carried_same same (crash_same _ _ _) memory (λ trust known. wanting.0)
           (subst (λ x. Step unlimited x finish memory x) (sym at.grows) (memory_finish some.0.stamp (some.0.reserved - some.0.len) at.bytes))
-          (λ e. absurd cc) (λ e w. absurd (grows_not (state.cells id) some.0.stamp at.bytes (some.0.reserved - some.0.len) at.grows w)) refl
+          (λ e. absurd cc) (λ e w. absurd (grows_not (state.cells id) some.0.stamp at.bytes (some.0.reserved - some.0.len) at.grows w)) refl refl
     ]
 
 pub seal-requires : goal.seal-requires
@@ -57,14 +59,16 @@ returns-in-Ok-finish-clause-step g c state standing =
     let key : pair.id ≡ id = c.in-Ok-seal.ensures.id ∙ at.of in
     let grows : state.cells pair.id ≡ growing pair.stamp None at.bytes (w.reserved - w.len) =
     ap state.cells key ∙ at.grows ∙ ap (λ s. growing s None at.bytes (w.reserved - w.len)) (sym c.in-Ok-seal.ensures.stamp) in
-    let there = c.in-Ok-finish.ensures.step state.cells at.bytes (w.reserved - w.len) standing.pool (stands_sealed at.stands sealed.id sealed.stamp sealed.vol sealed.places.0 sealed.places.1 (sealed.sealed _ at.bytes at.stands.pushed)) grows in
+    let belongs = stands_sealed at.stands sealed.id sealed.stamp sealed.vol sealed.places.0 sealed.places.1 (sealed.sealed _ at.bytes at.stands.pushed) in
+    let there = c.in-Ok-finish.ensures.step state.cells at.bytes (w.reserved - w.len) belongs (loose standing) grows in
     let t = at_block key there in
     let seen = took f id _ _ c.in-Ok.ensures.taken in
-    carried_on t.to.cell
+    carried_learning t.to.cell (with_meta state.metas pair.id pair.stamp (meta_of belongs))
     (goes_on standing id t.to.cell state.writers (t.to.stands _ standing.pool) c.finish.ensures.goes_on.honest.1 (λ other apart. c.finish.ensures.others other (λ e. apart (e ∙ key))) seen.0 (λ other apart. refl)
     (subst (λ o. MatchOption o (NotGrowing t.to.cell) (OpenWriter (g.D.PoolDisks.worlds c.finish.new.self.disks) (entry_at c.finish.new.self.map) id t.to.cell (state.writers id))) (sym seen.1)
     (subst NotGrowing (sym (t.to.says.1 refl)) tt)))
     (crash_takes t) done (λ trust known. refl) t.to.step (λ e. absurd cc) (λ e x. absurd cc) refl
+    (learns_final state.metas id pair.id pair.stamp at.bytes (meta_of belongs) key belongs.sealed.of_bytes.matches t.to.cell (t.to.says.1 refl))
 
 pub returns-in-Err-finish-clause-step : goal.returns-in-Err-finish-clause-step
 returns-in-Err-finish-clause-step g c state standing =
@@ -77,15 +81,17 @@ returns-in-Err-finish-clause-step g c state standing =
     let key : pair.id ≡ id = c.in-Ok-seal.ensures.id ∙ at.of in
     let grows : state.cells pair.id ≡ growing pair.stamp None at.bytes (w.reserved - w.len) =
     ap state.cells key ∙ at.grows ∙ ap (λ s. growing s None at.bytes (w.reserved - w.len)) (sym c.in-Ok-seal.ensures.stamp) in
-    let there = c.in-Err-finish.ensures.step state.cells at.bytes (w.reserved - w.len) standing.pool (stands_sealed at.stands sealed.id sealed.stamp sealed.vol sealed.places.0 sealed.places.1 (sealed.sealed _ at.bytes at.stands.pushed)) grows in
+    let belongs = stands_sealed at.stands sealed.id sealed.stamp sealed.vol sealed.places.0 sealed.places.1 (sealed.sealed _ at.bytes at.stands.pushed) in
+    let there = c.in-Err-finish.ensures.step state.cells at.bytes (w.reserved - w.len) belongs (loose standing) grows in
     let t = at_block key there in
     let seen = took f id _ _ c.in-Ok.ensures.taken in
-    carried_on t.to.cell
+    carried_learning t.to.cell (with_meta state.metas pair.id pair.stamp (meta_of belongs))
     (goes_on standing id t.to.cell state.writers (t.to.stands _ standing.pool) c.finish.ensures.goes_on.honest.1 (λ other apart. c.finish.ensures.others other (λ e. apart (e ∙ key))) seen.0 (λ other apart. refl)
     (subst (λ o. MatchOption o (NotGrowing t.to.cell) (OpenWriter (g.D.PoolDisks.worlds c.finish.new.self.disks) (entry_at c.finish.new.self.map) id t.to.cell (state.writers id))) (sym seen.1)
     (subst NotGrowing (sym (t.to.says.0 refl)) tt)))
     (crash_takes t) failed (λ trust known. refl) t.to.step
     (λ e. subst (FailsBy (faulty_of g.D.Draft.Draft g.D.Reader.Reader) (mark_of g.D.PoolDisks c.args.self.now.pool.disks) (mark_of g.D.PoolDisks c.finish.new.self.disks) (state.writers id) (state.cells id) finish) (sym (t.to.says.0 refl)) (c.in-Err-finish.ensures.failed refl)) (λ e x. absurd cc) refl
+    (learns_doubt state.metas id pair.id pair.stamp at.bytes (meta_of belongs) key belongs.sealed.of_bytes.matches t.to.cell (t.to.says.0 refl))
 
 pub returns-in-Err-Memory-default-clause-step : goal.returns-in-Err-Memory-default-clause-step
 returns-in-Err-Memory-default-clause-step g c state standing =
@@ -101,11 +107,11 @@ returns-in-Err-Memory-default-clause-step g c state standing =
     let open_still = subst (OpenWriter told entries id (state.cells id) (state.writers id)) (sym same) at in
     let seen = put_back f id new.id _ _ _ new open_still.of c.in-Ok.ensures.taken c.put.ensures.put in
     carried_on (state.cells id)
-    (goes_on standing id (state.cells id) state.writers (subst (PoolStands told (g.D.PoolDisks.volume_count c.args.self.now.pool.disks) entries (found_at c.args.self.now.pool.map) false) (sym (with_cell-same state.cells id)) standing.pool)
+    (goes_on standing id (state.cells id) state.writers (subst (PoolStands told (g.D.PoolDisks.volume_count c.args.self.now.pool.disks) entries (found_at c.args.self.now.pool.map) (exactly state.metas)) (sym (with_cell-same state.cells id)) standing.pool)
     (λ x. x) (λ other apart. refl) seen.0 (λ other apart. refl)
     (subst (λ o. MatchOption o (NotGrowing (state.cells id)) (OpenWriter told entries id (state.cells id) (state.writers id))) (sym seen.1) open_still))
-    (crash_only (λ sound. subst (PoolStands told (g.D.PoolDisks.volume_count c.args.self.now.pool.disks) entries (found_at c.args.self.now.pool.map) true) (sym (with_cell-same state.cells id)) sound)) memory (λ trust known. refl) (subst (λ x. Step unlimited x finish memory x) (sym at.grows) (memory_finish w.stamp (w.reserved - w.len) at.bytes))
-    (λ bad. absurd cc) (λ same waits. absurd (grows_not (state.cells id) w.stamp at.bytes (w.reserved - w.len) at.grows waits)) refl
+    (crash_only (λ sound. subst (PoolStands told (g.D.PoolDisks.volume_count c.args.self.now.pool.disks) entries (found_at c.args.self.now.pool.map) matching) (sym (with_cell-same state.cells id)) sound)) memory (λ trust known. refl) (subst (λ x. Step unlimited x finish memory x) (sym at.grows) (memory_finish w.stamp (w.reserved - w.len) at.bytes))
+    (λ bad. absurd cc) (λ same waits. absurd (grows_not (state.cells id) w.stamp at.bytes (w.reserved - w.len) at.grows waits)) refl refl
 
 pub returns-in-Err-Failed-default-clause-step : goal.returns-in-Err-Failed-default-clause-step
 returns-in-Err-Failed-default-clause-step g c state standing =
@@ -115,7 +121,7 @@ returns-in-Err-Failed-default-clause-step g c state standing =
     let e = c.in-Err-Failed-default in
     let at = writer_of_block _ _ _ (f w) (ap (option_map f) c.in-Ok.ensures.ok) (standing.writer id c.take.ensures.valid) in
     let key : e.writer.id ≡ id = e.ensures.keeps.id ∙ at.of in
-    let there = c.fail_write.ensures.step state.cells finish w.stamp (w.reserved - w.len) at.bytes standing.pool (ap state.cells key ∙ at.grows) (failed_finish w.stamp (w.reserved - w.len) at.bytes) in
+    let there = c.fail_write.ensures.step state.cells finish w.stamp (w.reserved - w.len) at.bytes (loose standing) (ap state.cells key ∙ at.grows) (failed_finish w.stamp (w.reserved - w.len) at.bytes) in
     let t = at_block key there in
     let seen = took f id _ _ c.in-Ok.ensures.taken in
     carried_on t.to.cell
@@ -125,4 +131,4 @@ returns-in-Err-Failed-default-clause-step g c state standing =
     (crash_takes t) failed (λ trust known. refl) t.to.step
     (λ same. subst (FailsBy (faulty_of g.D.Draft.Draft g.D.Reader.Reader) (mark_of g.D.PoolDisks c.args.self.now.pool.disks) (mark_of g.D.PoolDisks c.fail_write.new.self.disks) (state.writers id) (state.cells id) finish) (sym t.to.says)
     (inl (faulty_writer g.D.Draft.Draft.place g.D.Draft.Draft.faults (f w) (state.writers id) _ _ _ _ _ _ at.stands.block at.stands.meta at.block_given at.meta_given (e.ensures.failed e.field-0-0-is).1)))
-    (λ bad x. absurd cc) refl
+    (λ bad x. absurd cc) refl (learns_waiting state.metas id t.to.cell t.to.says)

@@ -10,7 +10,7 @@ use Rattle.pair_draft.specs.Writers.{writer_of}
 use Rattle.pool_state.proofs.Belonging.{stands_pushed}
 use Rattle.pool_state.proofs.Pushing.{pushes}
 use Rattle.dn_play.specs.Standing.{NotGrowing, OpenWriter}
-use Rattle.dn_play.proofs.Stepping.{at_block, crash_takes, crash_same, crash_only, goes_on, stays_on, carried_same, carried_on, seen_same, put_back, took, mapped_none, mapped_some, writer_of_block, no_writer_of_block, open_goes_on, everywhere}
+use Rattle.dn_play.proofs.Stepping.{loose, at_block, crash_takes, crash_same, crash_only, goes_on, stays_on, carried_same, carried_on, seen_same, put_back, took, mapped_none, mapped_some, writer_of_block, no_writer_of_block, open_goes_on, everywhere}
 use Rattle.dn_play.proofs.Stepped.{no_push, over_push, memory_push, failed_push, failed_not_memory, rose_above, faulty_block, has_meta, grows_not}
 use Rattle.dn_play.proofs.session.Session.push.Goals as goal
 
@@ -20,7 +20,7 @@ returns-in_default-clause-step g c state standing =
     let f = writer_of g.D.Draft.Draft.place g.D.Draft.Draft.bytes in
     let none = mapped_none _ _ (sym c.room_left.ensures.left ∙ c.in_default.is) in
     let rests = no_writer_of_block _ _ _ (ap (option_map f) none) (standing.writer id c.room_left.ensures.valid) in
-    carried_same standing (crash_same _ _ _) no_writer (λ trust known. refl) (no_push (state.cells id) c.args.piece.now rests) (λ e. absurd cc) (λ e w. absurd cc) refl
+    carried_same standing (crash_same _ _ _) no_writer (λ trust known. refl) (no_push (state.cells id) c.args.piece.now rests) (λ e. absurd cc) (λ e w. absurd cc) refl refl
 
 pub returns-then-piece-left-clause-step : goal.returns-then-piece-left-clause-step
 returns-then-piece-left-clause-step g c state standing =
@@ -32,7 +32,7 @@ returns-then-piece-left-clause-step g c state standing =
     let cell : state.cells id ≡ growing some.0.stamp None at.bytes left = at.grows ∙ ap (λ n. growing some.0.stamp None at.bytes n) some.2 in
     carried_same standing (crash_same _ _ _) (over left) (λ trust known. refl)
     (subst (λ x. Step unlimited x (push c.args.piece.now) (over left) x) (sym cell) (over_push some.0.stamp left at.bytes c.args.piece.now (omega arith)))
-    (λ e. absurd cc) (λ e w. absurd cc) refl
+    (λ e. absurd cc) (λ e w. absurd cc) refl refl
 
 pub returns-in-Err-clause-step : goal.returns-in-Err-clause-step
 returns-in-Err-clause-step g c state standing =
@@ -49,7 +49,7 @@ returns-in-Err-clause-step g c state standing =
     carried_same (stays_on standing standing.pool (λ t. t) (λ other. refl) (seen_same f _ _ c.in-Err.ensures.same))
     (crash_same _ _ _) memory (λ trust known. is_memory)
     (subst (λ x. Step unlimited x (push c.args.piece.now) memory x) (sym cell) (memory_push some.0.stamp left at.bytes c.args.piece.now (omega arith)))
-    (λ e. absurd cc) (λ e w. absurd (grows_not (state.cells id) some.0.stamp at.bytes left cell w)) refl
+    (λ e. absurd cc) (λ e w. absurd (grows_not (state.cells id) some.0.stamp at.bytes left cell w)) refl refl
 
 pub push-requires : goal.push-requires
 push-requires g c =
@@ -82,7 +82,7 @@ returns-in-Ok-push-clause-step g c state standing =
     (subst (λ o. MatchOption o (NotGrowing t.cell) (OpenWriter told entries id t.cell (state.writers id))) (sym seen.1)
     (open_goes_on told told entries entries id (state.cells id) t.cell (state.writers id) (f w) (f new) (at.bytes ++ piece) at done_so.keeps keeps_meta
     (stands_pushed at.stands done_so.keeps keeps_meta (done_so.pushed told at.bytes at.stands.pushed)) t.says)))
-    (crash_only (t.stands true)) done (λ trust known. refl) t.step (λ e. absurd cc) (λ e x. absurd cc) refl
+    (crash_only (t.stands matching)) done (λ trust known. refl) t.step (λ e. absurd cc) (λ e x. absurd cc) refl refl
 
 pub returns-in-Err-Failed-clause-step : goal.returns-in-Err-Failed-clause-step
 returns-in-Err-Failed-clause-step g c state standing =
@@ -99,7 +99,7 @@ returns-in-Err-Failed-clause-step g c state standing =
     let e = c.in-Err-Failed in
     let key : new.id ≡ id = e.ensures.keeps.id ∙ at.of in
     let faulty = e.ensures.failed (ap Err e.field-0-is) in
-    let there = c.fail_write.ensures.step state.cells (push piece) some.0.stamp left was.bytes standing.pool (ap state.cells key ∙ cell) (failed_push some.0.stamp left was.bytes piece (omega arith)) in
+    let there = c.fail_write.ensures.step state.cells (push piece) some.0.stamp left was.bytes (loose standing) (ap state.cells key ∙ cell) (failed_push some.0.stamp left was.bytes piece (omega arith)) in
     let t = at_block key there in
     let seen = took f id _ _ c.in-Ok.ensures.taken in
     carried_on t.to.cell
@@ -108,7 +108,7 @@ returns-in-Err-Failed-clause-step g c state standing =
     (subst NotGrowing (sym t.to.says) tt)))
     (crash_takes t) failed (λ trust known. refl) t.to.step
     (λ same. inl (faulty_block g.D.Draft.Draft.place g.D.Draft.Draft.faults (state.writers id) new.block _ _ _ (e.ensures.keeps.block ∙ at.stands.block) at.block_given (rose_above _ _ faulty.1)))
-    (λ bad x. absurd (failed_not_memory bad)) refl
+    (λ bad x. absurd (failed_not_memory bad)) refl refl
 
 -- which never comes, since what is left was asked before
 pub returns-in-Err-Over-clause-step : goal.returns-in-Err-Over-clause-step
@@ -138,4 +138,4 @@ returns-in-Err-Memory-clause-step g c state standing =
     (everywhere id _ _ seen.0 (seen.1 ∙ ap Some (e.ensures.same_memory (ap Err e.field-0-is)) ∙ sym (ap (option_map f) c.in-Ok.ensures.ok))))
     (crash_same _ _ _) memory (λ trust known. refl)
     (subst (λ x. Step unlimited x (push c.args.piece.now) memory x) (sym cell) (memory_push some.0.stamp left at.bytes c.args.piece.now (omega arith)))
-    (λ e. absurd cc) (λ e x. absurd (grows_not (state.cells id) some.0.stamp at.bytes left cell x)) refl
+    (λ e. absurd cc) (λ e x. absurd (grows_not (state.cells id) some.0.stamp at.bytes left cell x)) refl refl

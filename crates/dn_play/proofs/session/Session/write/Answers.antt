@@ -5,16 +5,17 @@ use Rattle.map_model.specs.Steps.{Step, write}
 use Rattle.pair_draft.specs.Writers.{writer_of}
 use Rattle.pool_state.specs.Answers.{unlimited, start_fault}
 use Rattle.pool_state.specs.Books.{entry_at}
-use Rattle.pool_state.specs.Stands.{with_cell}
+use Rattle.pool_state.specs.Stands.{with_cell, Stands}
 use Rattle.client_ops.specs.Writing.{op_writer, fill_fault, op_answer, FillStands, EndLeaves}
 use Rattle.client_ops.proofs.Ending.{ends_as_write}
 use Rattle.dn_play.specs.Commands.{FailsBy}
 use Rattle.dn_play.specs.State.{Numbers}
 use Rattle.dn_play.specs.Standing.{NotGrowing, OpenWriter, faulty_of, mark_of}
-use Rattle.dn_play.proofs.Stepping.{with_cell-here, crash_takes, crash_same, goes_on, none_open, carried_same, carried_on, made_number}
-use Rattle.dn_play.proofs.Stepped.{says_fault, is_failed, is_memory, write_refused, write_unstarted, faulty_writer, has_meta, write_begins_nothing}
-use Rattle.dn_play.proofs.Composing.{grows_started, grows_pushed, ended_stands, ended_safe}
-use Rattle.dn_play.proofs.Ended.{fill_step, says_end, ends_failed, end_rests, fails_write}
+use Rattle.dn_play.proofs.Stepping.{loose, with_cell-here, crash_takes, crash_same, goes_on, none_open, carried_same, carried_learning, carried_on, made_number}
+use Rattle.dn_play.proofs.Stepped.{says_fault, is_failed, is_memory, write_learns_nothing, write_refused, write_unstarted, faulty_writer, has_meta, write_begins_nothing}
+use Rattle.dn_play.proofs.Composing.{safe_then, grows_started, grows_pushed, ended_stands, ended_safe}
+use Rattle.map_model.specs.Sound.{Knowledge}
+use Rattle.dn_play.proofs.Ended.{end_knows, fill_step, says_end, ends_failed, end_rests, fails_write}
 use Rattle.dn_play.proofs.Progress.{rose_from}
 use Rattle.dn_play.proofs.session.Session.write.Goals as goal
 
@@ -23,14 +24,15 @@ returns-in-Some-clause-step g c state standing =
     let fault = c.in-Some.fault in
     carried_same standing (crash_same _ _ _) (start_fault fault) (λ trust known. says_fault trust fault _ c.refusal_of.ensures)
     (write_refused (state.cells c.args.id) c.args.stamp c.args.piece.now fault (omega arith) c.in-Some.ensures.not_a_fault.0 c.in-Some.ensures.not_a_fault.1
-    (c.in-Some.ensures.refused state.cells c.args.stamp (length c.args.piece.now) standing.pool))
+    (c.in-Some.ensures.refused state.cells c.args.stamp (length c.args.piece.now) (loose standing)))
     (λ e. absurd (c.in-Some.ensures.not_a_fault.0 (is_failed fault e))) (λ e w. absurd (c.in-Some.ensures.not_a_fault.1 (is_memory fault e))) refl
+    (write_learns_nothing c.args.stamp c.args.piece.now fault state.metas c.args.id (state.cells c.args.id) (λ e. absurd (c.in-Some.ensures.not_a_fault.0 e)))
 
 pub returns-in-Err-clause-step : goal.returns-in-Err-clause-step
 returns-in-Err-clause-step g c state standing =
     let fault = c.in-Err.fault in
-    let is_absent = c.write_refusal.ensures.absent state.cells standing.pool c.in_default.is in
-    let t = c.in-Err.ensures.step state.cells standing.pool in
+    let is_absent = c.write_refusal.ensures.absent state.cells (loose standing) c.in_default.is in
+    let t = c.in-Err.ensures.step state.cells (loose standing) in
     let none = none_open _ _ c.args.id (state.cells c.args.id) (state.writers c.args.id) _ (subst NotGrowing (sym is_absent) tt) (standing.writer c.args.id c.write_refusal.ensures.valid) in
     let rests : NotGrowing t.to.cell = elim (t.to.says.2 refl) [ inl same ↦ subst NotGrowing (sym (same ∙ is_absent)) tt | inr waits ↦ subst NotGrowing (sym waits) tt ] in
     carried_on t.to.cell
@@ -41,6 +43,7 @@ returns-in-Err-clause-step g c state standing =
     (λ e. subst (FailsBy (faulty_of g.D.Draft.Draft g.D.Reader.Reader) (mark_of g.D.PoolDisks c.args.self.now.pool.disks) (mark_of g.D.PoolDisks c.write_start.new.pool.disks) (state.writers c.args.id) (state.cells c.args.id) (write c.args.stamp c.args.piece.now))
     (sym (t.to.says.0 (ap Err (is_failed fault e)))) (inl (c.in-Err.ensures.failed (ap Err (is_failed fault e))), refl))
     (λ e w. t.to.says.1 (ap Err (is_memory fault e)) w) refl
+    (write_learns_nothing c.args.stamp c.args.piece.now fault state.metas c.args.id t.to.cell (λ e. t.to.says.0 (ap Err e)))
 
 pub op_fill-filled-requires : goal.op_fill-filled-requires
 op_fill-filled-requires g c = record { whole = has_meta g.D.Draft.Draft.place (op_writer c.in-Ok.op).meta _ c.in-Ok.ensures.writer.meta }
@@ -48,7 +51,7 @@ op_fill-filled-requires g c = record { whole = has_meta g.D.Draft.Draft.place (o
 pub op_end-requires-clause-stands : goal.op_end-requires-clause-stands
 op_end-requires-clause-stands g c =
     let some = c.requires.stands in
-    let t = c.in-Ok.ensures.step some.0.cells some.1.pool in
+    let t = c.in-Ok.ensures.step some.0.cells (loose some.1) in
     (_, t.to.stands _ some.1.pool)
 
 pub op_end-requires-clause-belongs : goal.op_end-requires-clause-belongs
@@ -61,8 +64,8 @@ returns-clause-step g c state standing =
     let piece = c.args.piece.now in
     let w = op_writer c.in-Ok.op in
     let f = writer_of g.D.Draft.Draft.place g.D.Draft.Draft.bytes in
-    let is_absent = c.write_refusal.ensures.absent state.cells standing.pool c.in_default.is in
-    let t = c.in-Ok.ensures.step state.cells standing.pool in
+    let is_absent = c.write_refusal.ensures.absent state.cells (loose standing) c.in_default.is in
+    let t = c.in-Ok.ensures.step state.cells (loose standing) in
     let what = c.in-Ok.ensures.what in
     let belongs = c.in-Ok.ensures.writer in
     let started = t.to.says.3 refl in
@@ -73,9 +76,10 @@ returns-clause-step g c state standing =
     let filled = subst (λ n. FillStands g.D.Draft.Draft.place g.D.Draft.Draft.bytes g.D.Sealed.SealedDraft.place g.D.Sealed.SealedDraft.bytes (g.D.PoolDisks.worlds c.write_start.new.pool.disks) (entry_at c.write_start.new.pool.map) n stamp piece c.op_fill-filled.result) what.0
     (subst (λ n. FillStands g.D.Draft.Draft.place g.D.Draft.Draft.bytes g.D.Sealed.SealedDraft.place g.D.Sealed.SealedDraft.bytes (g.D.PoolDisks.worlds c.write_start.new.pool.disks) (entry_at c.write_start.new.pool.map) w.id n piece c.op_fill-filled.result) what.1 fill) in
     let end = c.op_end.ensures.step (with_cell state.cells id p.cell) id stamp (length piece - length piece) piece (two.stands _ standing.pool) filled (with_cell-here state.cells id p.cell ∙ p.says) in
-    let e = end.takes in
     let fault = fill_fault c.op_fill-filled.result in
     let reply = c.op_end.result in
+    let knows = end_knows fault reply stamp piece end.takes.to.cell id end.learn state.metas end.learns end.takes.to.says in
+    let e = end.takes in
     let leaves : EndLeaves fault reply stamp piece e.to.cell = e.to.says in
     let none = none_open _ _ id (state.cells id) (state.writers id) _ (subst NotGrowing (sym is_absent) tt) (standing.writer id c.write_refusal.ensures.valid) in
     let given = c.in-Ok.ensures.numbers in
@@ -83,11 +87,11 @@ returns-clause-step g c state standing =
     let later = c.op_end.ensures.goes_on.next_number in
     let meta_given = made_number g.D.Draft.Draft.place _ _ w.meta belongs.meta_number _ _ belongs.meta c.in-Ok.ensures.meta_numbers in
     let block_is : (g.D.Draft.Draft.place w.block).number ≡ belongs.block_number = ap (λ (d : DraftPlace). d.number) belongs.block in
-    carried_on e.to.cell
-    (goes_on standing id e.to.cell state.writers (ended_stands two e _ standing.pool)
+    carried_learning e.to.cell knows.metas
+    (goes_on standing id e.to.cell state.writers (subst (λ (k : Knowledge). Stands c.op_end.new.pool k (with_cell state.cells id e.to.cell)) knows.is (ended_stands two e _ standing.pool))
     (λ x. c.write_start.ensures.goes_on.honest.1 (c.op_end.ensures.goes_on.honest.1 x)) (λ other apart. c.op_end.ensures.others id stamp piece filled other apart ∙ c.write_start.ensures.others other apart) (λ other apart. refl) (λ other apart. refl)
     (subst (λ o. MatchOption o (NotGrowing e.to.cell) (OpenWriter (g.D.PoolDisks.worlds c.op_end.new.pool.disks) (entry_at c.op_end.new.pool.map) id e.to.cell (state.writers id))) (sym none) (end_rests fault reply stamp piece e.to.cell leaves)))
-    (ended_safe two e stamp (length piece - length piece) piece is_absent p.says) (op_answer reply) (λ trust known. says_end trust reply _ c.end_reply_of.ensures)
+    (safe_then knows.matching_stays (ended_safe two e stamp (length piece - length piece) piece is_absent p.says)) (op_answer reply) (λ trust known. says_end trust reply _ c.end_reply_of.ensures)
     (subst (λ cell. Step unlimited cell (write stamp piece) (op_answer reply) e.to.cell) (sym is_absent) (ends_as_write fault reply stamp piece e.to.cell (omega arith) leaves))
     (λ same. fails_write (faulty_of g.D.Draft.Draft g.D.Reader.Reader)
     (mark_of g.D.PoolDisks c.args.self.now.pool.disks) (mark_of g.D.PoolDisks c.op_end.new.pool.disks)
@@ -97,4 +101,4 @@ returns-clause-step g c state standing =
     (record { since = omega (arith, block_is, given.since); before = omega (arith, block_is, given.before, later) })
     (record { since = meta_given.since; before = omega (arith, meta_given.before, later) })
     (c.op_fill-filled.ensures.failed stopped))))
-    (λ same x. omega (arith, given.since, given.before, later)) (write_begins_nothing stamp piece (op_answer reply))
+    (λ same x. omega (arith, given.since, given.before, later)) (write_begins_nothing stamp piece (op_answer reply)) knows.after

@@ -16,7 +16,7 @@ returns-in_err-remove-clause-quiet g c cells stands =
     let waits = c.requires.state ∙ ap (λ (b : Bool). Waiting b c.args.meta) c.if-not-block.false in
     let listed = lists_block e c.args.meta (found c.args.id) waits in
     let reaches = reaches_remove_at c.args.id e.vol writing_block valid refl _ (c.as_str.ensures ∙ c.rbw_block.ensures) _ _ c.remove.ensures.worlds in
-    rests (λ sound old. (
+    rests (λ known old. (
       failed_stands old c.args.id valid e c.requires.entry [] (left_block e) _ listed _ _ c.remove.ensures.volumes reaches,
       calls _ (begins _ _) c.remove.ensures.time.nothing_else (failed_images old c.args.id valid e c.requires.entry [] (left_block e) _ listed _ _ c.remove.ensures.volumes reaches),
     )) stands
@@ -29,7 +29,7 @@ returns-clause-quiet g c cells stands =
     let waits = c.requires.state ∙ ap (λ (b : Bool). Waiting b c.args.meta) c.if-not-block.false in
     let listed = lists_block e c.args.meta (found c.args.id) waits in
     let reaches = reaches_removed_at c.args.id e.vol writing_block valid refl _ (c.as_str.ensures ∙ c.rbw_block.ensures) _ _ c.in_ok-remove.ensures.ok in
-    rests (λ sound old. (
+    rests (λ known old. (
       removed_stands old c.args.id valid e c.requires.entry [] (left_block e) _ listed _ _ c.remove.ensures.volumes reaches _ _
           (with_state (Waiting false c.args.meta) e) (found c.args.id)
           (λ other. c.set_state.ensures.changed other ∙ ap (λ o. if other == c.args.id then option_map (with_state (Waiting false c.args.meta)) o else Rattle.pool_state.specs.Books.entry_at c.args.self.now.map other) c.requires.entry)

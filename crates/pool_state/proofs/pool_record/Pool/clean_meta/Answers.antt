@@ -17,7 +17,7 @@ returns-in_err-remove-clause-quiet g c cells stands =
     let has = c.requires.entry ∙ ap (λ (b : Bool). Some (with_state (Waiting false b) c.args.entry.now)) c.if-not-meta.false in
     let listed = lists_meta e (found c.args.id) refl in
     let reaches = reaches_remove_at c.args.id e.vol (writing_meta e.stamp) valid (is_stamp-IsStamp e.stamp c.get-in_range.ensures.in_range) _ (c.as_str.ensures ∙ c.rbw_meta.ensures) _ _ c.remove.ensures.worlds in
-    rests (λ sound old. (
+    rests (λ known old. (
       failed_stands old c.args.id valid e has [] (left_meta e) _ listed _ _ c.remove.ensures.volumes reaches,
       calls _ (begins _ _) c.remove.ensures.time.nothing_else (failed_images old c.args.id valid e has [] (left_meta e) _ listed _ _ c.remove.ensures.volumes reaches),
     )) stands
@@ -30,7 +30,7 @@ returns-clause-quiet g c cells stands =
     let has = c.requires.entry ∙ ap (λ (b : Bool). Some (with_state (Waiting false b) c.args.entry.now)) c.if-not-meta.false in
     let listed = lists_meta e (found c.args.id) refl in
     let reaches = reaches_removed_at c.args.id e.vol (writing_meta e.stamp) valid (is_stamp-IsStamp e.stamp c.get-in_range.ensures.in_range) _ (c.as_str.ensures ∙ c.rbw_meta.ensures) _ _ c.in_ok-remove.ensures.ok in
-    rests (λ sound old. (
+    rests (λ known old. (
       removed_stands old c.args.id valid e has [] (left_meta e) _ listed _ _ c.remove.ensures.volumes reaches _ _
           (with_state (Waiting false false) e) (found c.args.id)
           (λ other. c.set_state.ensures.changed other ∙ ap (λ o. if other == c.args.id then option_map (with_state (Waiting false false)) o else Rattle.pool_state.specs.Books.entry_at c.args.self.now.map other) has)

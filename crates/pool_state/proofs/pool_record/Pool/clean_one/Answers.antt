@@ -30,7 +30,7 @@ returns-in_err-remove-clause-quiet g c cells stands =
     let valid = c.get-valid.ensures.in_range in
     let one = one_found stands c.args.id valid c.args.self.now.map.found.items c.args.at refl c.requires.first l c.index-leftover.ensures in
     let reaches = reaches_remove_at c.args.id l.vol (file_is l.file) valid c.path.ensures.valid _ (c.as_str.ensures ∙ c.path.ensures.text) _ _ c.remove.ensures.worlds in
-    rests (λ sound old. (
+    rests (λ known old. (
       failed_stands old c.args.id valid one.entry one.has (own_left (Some one.entry)) (book_leftover l) _ one.listed _ _ c.remove.ensures.volumes reaches,
       calls _ (begins _ _) c.remove.ensures.time.nothing_else
           (failed_images old c.args.id valid one.entry one.has (own_left (Some one.entry)) (book_leftover l) _ one.listed _ _ c.remove.ensures.volumes reaches),
@@ -42,7 +42,7 @@ returns-clause-quiet g c cells stands =
     let valid = c.get-valid.ensures.in_range in
     let one = one_found stands c.args.id valid c.args.self.now.map.found.items c.args.at refl c.requires.first l c.index-leftover.ensures in
     let reaches = reaches_removed_at c.args.id l.vol (file_is l.file) valid c.path.ensures.valid _ (c.as_str.ensures ∙ c.path.ensures.text) _ _ c.in_ok-remove.ensures.ok in
-    rests (λ sound old. (
+    rests (λ known old. (
       removed_stands old c.args.id valid one.entry one.has (own_left (Some one.entry)) (book_leftover l) _ one.listed _ _ c.remove.ensures.volumes reaches _ _
           one.entry (of_block c.args.id (drop (suc c.args.at) c.args.self.now.map.found.items)) (entries_kept c.args.id _ _ one.entry one.has (same_entries _ _ c.drop_found.ensures.entries))
           (λ other. ap (of_block other) c.drop_found.ensures.found ∙ first_dropped c.args.id c.args.self.now.map.found.items c.args.at c.requires.first other)

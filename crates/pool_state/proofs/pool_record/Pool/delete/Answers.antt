@@ -12,7 +12,7 @@ returns-in_default-clause-step g c cells stands =
     let absent_here = is_absent stands c.args.id c.find.ensures.valid none in
     takes (cells c.args.id) (subst (λ cell. Step unlimited cell delete no_block cell) (sym absent_here) (refl, refl))
     (λ e. absurd cc, λ e. absurd cc)
-    (λ sound old. (stands_same _ _ _ _ _ _ _ _ sound cells c.args.id old refl refl (λ other. refl) (λ other. refl), begins _ _)) stands
+    (λ known old. (stands_same _ _ _ _ _ _ _ _ known cells c.args.id old refl refl (λ other. refl) (λ other. refl), begins _ _)) stands
 
 pub delete_final-requires-clause-entry : goal.delete_final-requires-clause-entry
 delete_final-requires-clause-entry g c = sym c.find.ensures.entry ∙ c.in-Some.is
@@ -27,5 +27,5 @@ pub returns-in-Writing-clause-step : goal.returns-in-Writing-clause-step
 returns-in-Writing-clause-step g c cells stands =
     takes (cells c.args.id) (writes_here stands c.args.id c.find.ensures.valid c.in-Some.entry (sym c.find.ensures.entry ∙ c.in-Some.is) c.in-Writing.block c.in-Writing.meta c.in-Writing.is)
     (λ e. absurd cc, λ e. absurd cc)
-    (λ sound old. (stands_same _ _ _ _ _ _ _ _ sound cells c.args.id old refl refl (λ other. refl) (λ other. refl), begins _ _)) stands
+    (λ known old. (stands_same _ _ _ _ _ _ _ _ known cells c.args.id old refl refl (λ other. refl) (λ other. refl), begins _ _)) stands
 -- timed imp

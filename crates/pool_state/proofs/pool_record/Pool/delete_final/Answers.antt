@@ -14,7 +14,7 @@ returns-in-Ok-clause-step g c cells stands =
     let replica = replica_of stands c.args.id valid e c.requires.entry c.requires.state in
     takes absent (subst (λ cell. Step unlimited cell delete done absent) (sym replica.1) (refl, refl))
     (λ e. absurd cc, λ e. refl)
-    (λ sound old. (
+    (λ known old. (
       final_goes old c.args.id valid e c.requires.entry c.requires.state replica.0 replica.1 _ _ _ _ c.remove_files.ensures.goes_on.volume_count (same_found _ _ c.remove.ensures.found)
           (c.in-Ok.ensures.removes.all refl) c.remove.ensures.removed,
       adds_removals old c.args.id valid c.remove_files.ensures.removes absent (final_passes_absent old c.args.id valid e c.requires.entry c.requires.state replica.0 replica.1),
@@ -27,7 +27,7 @@ returns-in-Err-clause-step g c cells stands =
     let replica = replica_of stands c.args.id valid e c.requires.entry c.requires.state in
     takes (unsure (Some replica.0) None false) (subst (λ cell. Step unlimited cell delete failed (unsure (Some replica.0) None false)) (sym replica.1) (inr refl))
     (λ is. sym (ap half_deleted replica.1), λ e. absurd cc)
-    (λ sound old. (
+    (λ known old. (
       final_doubts old c.args.id valid e c.requires.entry c.requires.state replica.0 replica.1 _ _ _ _ c.remove_files.ensures.goes_on.volume_count (same_found _ _ c.set_state.ensures.found)
           c.remove_files.ensures.removes.some c.set_state.ensures.changed,
       adds_removals old c.args.id valid c.remove_files.ensures.removes (unsure (Some replica.0) None false) (final_passes_doubt old c.args.id valid e c.requires.entry c.requires.state replica.0 replica.1),

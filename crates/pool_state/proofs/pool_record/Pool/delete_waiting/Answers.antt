@@ -16,7 +16,7 @@ returns-in-Ok-clause-step g c cells stands =
     let now = quiet.stands _ stands in
     let waits = waits_here now c.args.id valid e c.in-Ok.ensures.done refl c.in-Ok.ensures.none in
     quiet_deletion c.args.id quiet (subst (λ cell. Step unlimited cell delete done absent) (sym waits) (refl, refl)) (λ e. absurd cc, λ e. refl)
-    (λ sound old. waiting_goes old c.args.id valid e c.in-Ok.ensures.done refl c.in-Ok.ensures.none _ _ (same_found _ _ c.remove.ensures.found) c.remove.ensures.removed)
+    (λ known old. waiting_goes old c.args.id valid e c.in-Ok.ensures.done refl c.in-Ok.ensures.none _ _ (same_found _ _ c.remove.ensures.found) c.remove.ensures.removed)
 
 pub returns-in-Err-clause-step : goal.returns-in-Err-clause-step
 returns-in-Err-clause-step g c cells stands =

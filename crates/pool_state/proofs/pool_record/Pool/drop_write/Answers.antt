@@ -29,7 +29,7 @@ returns-in-Err-clause-step g c cells bytes left stands grows =
     let reaches = reaches_remove_at w.id w.vol writing_block belongs.valid.0 refl _ (c.as_str.ensures ∙ c.rbw_block.ensures) _ _ c.in-Err.ensures.worlds in
     takes waiting (subst (λ cell. Step unlimited cell drop_write failed waiting) (sym grows) (drop_step w.stamp left bytes failed waiting refl))
     (λ e. refl, λ e. absurd cc)
-    (λ sound old. (
+    (λ known old. (
       given_up_stands old w.id w.stamp left bytes belongs.valid.0 grows _ belongs.block_number belongs.meta_number refl belongs.entry step true true
           (λ before after stepped. block_failed after stepped) _ _ _ _ c.in-Err.ensures.volumes (same_found _ _ c.set_state.ensures.found) reaches c.set_state.ensures.changed,
       calls _ (begins _ _) c.in-Err.ensures.time.nothing_else (shown old w.id belongs.valid.0 step _ reaches waiting
@@ -48,7 +48,7 @@ returns-in-Err-remove-clause-step g c cells bytes left stands grows =
     (reaches_remove_at w.id w.vol (writing_meta w.stamp) belongs.valid.0 (is_stamp-IsStamp w.stamp belongs.valid.1) _ (c.as_str-2.ensures ∙ c.rbw_meta.ensures) _ _ c.in-Err-remove.ensures.worlds) in
     takes waiting (subst (λ cell. Step unlimited cell drop_write failed waiting) (sym grows) (drop_step w.stamp left bytes failed waiting refl))
     (λ e. refl, λ e. absurd cc)
-    (λ sound old. (
+    (λ known old. (
       given_up_stands old w.id w.stamp left bytes belongs.valid.0 grows _ belongs.block_number belongs.meta_number refl belongs.entry step false true
           (λ before after stepped. meta_failed after (subst (λ v. Fails v (remove_in v w.vol (writing_meta w.stamp)) after) stepped.1 stepped.2))
           _ _ _ _ (c.in-Err-remove.ensures.volumes ∙ c.in-Ok.ensures.volumes) (same_found _ _ c.set_state-in-Err-remove.ensures.found) reaches c.set_state-in-Err-remove.ensures.changed,
@@ -71,7 +71,7 @@ returns-clause-step g c cells bytes left stands grows =
     (reaches_removed_at w.id w.vol (writing_meta w.stamp) belongs.valid.0 (is_stamp-IsStamp w.stamp belongs.valid.1) _ (c.as_str-2.ensures ∙ c.rbw_meta.ensures) _ _ c.in-Ok-remove.ensures.ok) in
     takes absent (subst (λ cell. Step unlimited cell drop_write done absent) (sym grows) (drop_step w.stamp left bytes done absent (refl, refl)))
     (λ e. absurd cc, λ e. refl)
-    (λ sound old. (
+    (λ known old. (
       dropped_stands old w.id w.stamp left bytes belongs.valid.0 grows _ belongs.block_number belongs.meta_number refl belongs.entry step
           (λ before after stepped. stepped.2 ∙ ap (λ v. remove_in v w.vol (writing_meta w.stamp)) stepped.1)
           _ _ _ _ (c.in-Ok-remove.ensures.volumes ∙ c.in-Ok.ensures.volumes) (same_found _ _ c.remove-3.ensures.found) reaches c.remove-3.ensures.removed,

@@ -19,7 +19,7 @@ returns-clause-step g c cells command stamp left bytes stands grows fails =
     let numbers = by_state stands id stamp left bytes c.set_state.ensures.valid grows entry.0 _ refl entry.2 in
     let found = Rattle.pool_state.specs.Books.found_at c.args.self.now.map in
     takes waiting (subst (λ cell. Step unlimited cell command failed waiting) (sym grows) fails) refl
-    (λ sound old. (
+    (λ known old. (
       given_up_stands old id stamp left bytes c.set_state.ensures.valid grows entry.0 numbers.0 numbers.1 numbers.2 entry.1 Stays true true
           (λ before after stepped. subst (λ v. DropsFresh before (found id) None (writer_in old id stamp left bytes c.set_state.ensures.valid grows entry.0 numbers.0 numbers.1) v
           (block_books (Some (with_state (Waiting true true) entry.0)) (found id)) waiting) (sym stepped) given_up_by_caller)

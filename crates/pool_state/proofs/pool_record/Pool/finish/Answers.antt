@@ -7,30 +7,32 @@ use Rattle.map_model.specs.Slots.{View, block, meta, writing_block, writing_meta
 use Rattle.map_model.specs.Tenures.{Fails, meta_failed, block_failed}
 use Rattle.pool_state.specs.Reaching.{Then}
 use Rattle.pool_state.proofs.Reaching.{reaches_then}
-use Rattle.pool_state.proofs.Changing.{same_found}
-use Rattle.pool_state.proofs.Showing.{begins, calls, shown, takes}
-use Rattle.pool_state.proofs.Ends.{meta_of, reaches_published_at, reaches_publish_at, same_told, finish_step, meta_stands, block_stands, doubt_passes, new_passes, final_passes, finish_doubts, finish_ends}
+use Rattle.map_model.specs.Sound.{learned}
+use Rattle.pool_state.specs.Writers.{meta_of}
+use Rattle.pool_state.proofs.Changing.{learns, same_found}
+use Rattle.pool_state.proofs.Showing.{begins, calls, shown, takes_learning}
+use Rattle.pool_state.proofs.Ends.{meta_fits, reaches_published_at, reaches_publish_at, same_told, finish_step, meta_stands, block_stands, doubt_passes, new_passes, final_passes, finish_doubts, finish_ends}
 use Rattle.pool_state.proofs.pool_record.Pool.finish.Goals as goal
 
 pub publish-requires : goal.publish-requires
 publish-requires g c = record { stands = meta_stands c.requires.stands.1 _ _ c.requires.belongs.1 }
 
 pub returns-in-Err-clause-step : goal.returns-in-Err-clause-step
-returns-in-Err-clause-step g c cells bytes left stands belongs grows =
+returns-in-Err-clause-step g c cells bytes left belongs stands grows =
     let p = c.args.pair in
     let new : Replica = record { stamp = p.stamp; bytes = bytes } in
     let step : View → View → Type 0 = λ before after. Fails before (publish_in before p.vol (writing_meta p.stamp) (meta p.stamp) (meta_of belongs)) after in
     let reaches = reaches_publish_at p.id p.vol (writing_meta p.stamp) (meta p.stamp) belongs.meta_number (meta_of belongs) _ belongs.valid.0
     (is_stamp-IsStamp p.stamp belongs.valid.1) (is_stamp-IsStamp p.stamp belongs.valid.1) _ _ belongs.meta (c.as_str.ensures ∙ c.meta_path.ensures) _ _
     (λ told. same_told _ _ (belongs.sealed.meta_bytes told)) c.in-Err.ensures.worlds in
-    takes (unsure None (Some new) false)
+    takes_learning (learned p.id p.stamp (meta_of belongs)) refl (unsure None (Some new) false)
     (subst (λ cell. Step unlimited cell finish failed (unsure None (Some new) false)) (sym grows) (finish_step p.stamp left bytes failed (unsure None (Some new) false) (inr refl)))
     (λ e. refl, λ e. absurd cc)
-    (λ sound old. (
-      finish_doubts old _ bytes belongs left grows step (λ before after stepped. meta_failed after stepped) _ _ _ _ c.in-Err.ensures.volumes (same_found _ _ c.set_state.ensures.found)
+    (λ known was. let old = learns was p.id p.stamp left bytes (meta_of belongs) grows in (
+      finish_doubts old _ bytes belongs left grows (meta_fits known belongs) step (λ before after stepped. meta_failed after stepped) _ _ _ _ c.in-Err.ensures.volumes (same_found _ _ c.set_state.ensures.found)
           reaches c.set_state.ensures.changed,
       calls _ (begins _ _) c.in-Err.ensures.time.nothing_else (shown old p.id belongs.valid.0 step _ reaches (unsure None (Some new) false)
-          (doubt_passes old _ bytes belongs left grows step (λ before after stepped. meta_failed after stepped))),
+          (doubt_passes old _ bytes belongs left grows (meta_fits known belongs) step (λ before after stepped. meta_failed after stepped))),
     )) stands
 
 pub publish-requires-2 : goal.publish-requires-2
@@ -45,7 +47,7 @@ publish-requires-2 g c =
     }
 
 pub returns-in-Err-publish-clause-step : goal.returns-in-Err-publish-clause-step
-returns-in-Err-publish-clause-step g c cells bytes left stands belongs grows =
+returns-in-Err-publish-clause-step g c cells bytes left belongs stands grows =
     let p = c.args.pair in
     let new : Replica = record { stamp = p.stamp; bytes = bytes } in
     let one : View → View → Type 0 = λ before after. after ≡ publish_in before p.vol (writing_meta p.stamp) (meta p.stamp) (meta_of belongs) in
@@ -57,23 +59,23 @@ returns-in-Err-publish-clause-step g c cells bytes left stands belongs grows =
     (reaches_publish_at p.id p.vol writing_block block belongs.block_number bytes _ belongs.valid.0
     refl refl _ _ belongs.block (c.as_str-2.ensures ∙ c.block_path.ensures) _ _
     (λ told. same_told _ _ (belongs.sealed.block_bytes (c.in-Ok.ensures.worlds.honest.1 told))) c.in-Err-publish.ensures.worlds) in
-    takes (unsure None (Some new) false)
+    takes_learning (learned p.id p.stamp (meta_of belongs)) refl (unsure None (Some new) false)
     (subst (λ cell. Step unlimited cell finish failed (unsure None (Some new) false)) (sym grows) (finish_step p.stamp left bytes failed (unsure None (Some new) false) (inr refl)))
     (λ e. refl, λ e. absurd cc)
-    (λ sound old. (
-      finish_doubts old _ bytes belongs left grows step
+    (λ known was. let old = learns was p.id p.stamp left bytes (meta_of belongs) grows in (
+      finish_doubts old _ bytes belongs left grows (meta_fits known belongs) step
           (λ before after stepped. block_failed after (subst (λ v. Fails v (publish_in v p.vol writing_block block bytes) after) stepped.1 stepped.2))
           _ _ _ _ (c.in-Err-publish.ensures.volumes ∙ c.in-Ok.ensures.volumes) (same_found _ _ c.set_state-in-Err-publish.ensures.found)
           reaches c.set_state-in-Err-publish.ensures.changed,
       calls _ (calls _ (begins _ _) c.in-Ok.ensures.time.nothing_else (shown old p.id belongs.valid.0 one _ first (unsure None (Some new) false)
-          (doubt_passes old _ bytes belongs left grows one (λ before after stepped. meta_failed after (inr stepped)))))
+          (doubt_passes old _ bytes belongs left grows (meta_fits known belongs) one (λ before after stepped. meta_failed after (inr stepped)))))
           c.in-Err-publish.ensures.time.nothing_else (shown old p.id belongs.valid.0 step _ reaches (unsure None (Some new) false)
-          (doubt_passes old _ bytes belongs left grows step
+          (doubt_passes old _ bytes belongs left grows (meta_fits known belongs) step
           (λ before after stepped. block_failed after (subst (λ v. Fails v (publish_in v p.vol writing_block block bytes) after) stepped.1 stepped.2)))),
     )) stands
 
 pub returns-clause-step : goal.returns-clause-step
-returns-clause-step g c cells bytes left stands belongs grows =
+returns-clause-step g c cells bytes left belongs stands grows =
     let p = c.args.pair in
     let new : Replica = record { stamp = p.stamp; bytes = bytes } in
     let one : View → View → Type 0 = λ before after. after ≡ publish_in before p.vol (writing_meta p.stamp) (meta p.stamp) (meta_of belongs) in
@@ -85,18 +87,18 @@ returns-clause-step g c cells bytes left stands belongs grows =
     (reaches_published_at p.id p.vol writing_block block belongs.block_number bytes _ belongs.valid.0
     refl refl _ _ belongs.block (c.as_str-2.ensures ∙ c.block_path.ensures) _ _
     (λ told. same_told _ _ (belongs.sealed.block_bytes (c.in-Ok.ensures.worlds.honest.1 told))) c.in-Ok-publish.ensures.ok) in
-    takes (final new)
+    takes_learning (learned p.id p.stamp (meta_of belongs)) refl (final new)
     (subst (λ cell. Step unlimited cell finish done (final new)) (sym grows) (finish_step p.stamp left bytes done (final new) (refl, refl)))
     (λ e. absurd cc, λ e. refl)
-    (λ sound old. (
-      finish_ends old _ bytes belongs left grows step
+    (λ known was. let old = learns was p.id p.stamp left bytes (meta_of belongs) grows in (
+      finish_ends old _ bytes belongs left grows (meta_fits known belongs) step
           (λ before after stepped. stepped.2 ∙ ap (λ v. publish_in v p.vol writing_block block bytes) stepped.1)
           _ _ _ _ (c.in-Ok-publish.ensures.volumes ∙ c.in-Ok.ensures.volumes) (same_found _ _ c.change.ensures.found)
           reaches c.change.ensures.changed,
       calls _ (calls _ (begins _ _) c.in-Ok.ensures.time.nothing_else (shown old p.id belongs.valid.0 one _ first (final new)
-          (new_passes old _ bytes belongs left grows one (λ before after stepped. meta_failed after (inr stepped)))))
+          (new_passes old _ bytes belongs left grows (meta_fits known belongs) one (λ before after stepped. meta_failed after (inr stepped)))))
           c.in-Ok-publish.ensures.time.nothing_else (shown old p.id belongs.valid.0 step _ reaches (final new)
-          (final_passes old _ bytes belongs left grows step
+          (final_passes old _ bytes belongs left grows (meta_fits known belongs) step
           (λ before after stepped. stepped.2 ∙ ap (λ v. publish_in v p.vol writing_block block bytes) stepped.1))),
     )) stands
 -- timed imp

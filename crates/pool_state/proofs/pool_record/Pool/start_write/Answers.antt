@@ -25,7 +25,7 @@ returns-in-Some-clause-step g c cells stands =
     (start_refused stands c.args.id c.find.ensures.valid c.in-Some.entry c.args.stamp c.args.need c.write_refusal.result
     (sym c.find.ensures.entry ∙ c.in-Some.is) c.write_refusal.ensures)
     (λ e. absurd (so.0 cc), λ e w. absurd (so.1 cc), λ e. inl refl, λ e. absurd cc)
-    (λ sound old. (stands_same _ _ _ _ _ _ _ _ sound cells c.args.id old refl refl (λ other. refl) (λ other. refl), begins _ _)) stands
+    (λ known old. (stands_same _ _ _ _ _ _ _ _ known cells c.args.id old refl refl (λ other. refl) (λ other. refl), begins _ _)) stands
 
 pub returns-in_default-reserve_sums-clause-step : goal.returns-in_default-reserve_sums-clause-step
 returns-in_default-reserve_sums-clause-step g c cells stands =
@@ -33,7 +33,7 @@ returns-in_default-reserve_sums-clause-step g c cells stands =
     takes (cells c.args.id)
     (step_of stands c.args.id c.find.ensures.valid none c.args.stamp c.args.need memory (cells c.args.id) (omega arith) (inl (is_absent stands c.args.id c.find.ensures.valid none)))
     (λ e. absurd cc, λ e w. absurd (not_waiting _ (is_absent stands c.args.id c.find.ensures.valid none) w), λ e. inl refl, λ e. absurd cc)
-    (λ sound old. (stands_same _ _ _ _ _ _ _ _ sound cells c.args.id old refl refl (λ other. refl) (λ other. refl), begins _ _)) stands
+    (λ known old. (stands_same _ _ _ _ _ _ _ _ known cells c.args.id old refl refl (λ other. refl) (λ other. refl), begins _ _)) stands
 
 pub returns-in-Err-clause-step : goal.returns-in-Err-clause-step
 returns-in-Err-clause-step g c cells stands =
@@ -41,7 +41,7 @@ returns-in-Err-clause-step g c cells stands =
     takes (cells c.args.id)
     (step_of stands c.args.id c.find.ensures.valid none c.args.stamp c.args.need memory (cells c.args.id) (omega arith) (inl (is_absent stands c.args.id c.find.ensures.valid none)))
     (λ e. absurd cc, λ e w. absurd (not_waiting _ (is_absent stands c.args.id c.find.ensures.valid none) w), λ e. inl refl, λ e. absurd cc)
-    (λ sound old. (stands_same _ _ _ _ _ _ _ _ sound cells c.args.id old refl refl c.in-Err.ensures.err (same_found _ _ c.in-Err.ensures.found), begins _ _)) stands
+    (λ known old. (stands_same _ _ _ _ _ _ _ _ known cells c.args.id old refl refl c.in-Err.ensures.err (same_found _ _ c.in-Err.ensures.found), begins _ _)) stands
 
 pub create-requires-clause-free : goal.create-requires-clause-free
 create-requires-clause-free g c =
@@ -57,7 +57,7 @@ returns-in-Err-Failed-clause-step g c cells stands =
     let reaches = reaches_create_at id 1 writing_block number c.find.ensures.valid refl refl _ (c.as_str.ensures ∙ c.rbw_block.ensures) _ _ c.in-Err-Failed.ensures.worlds in
     takes waiting (step_of stands id c.find.ensures.valid none c.args.stamp c.args.need failed waiting (omega arith) (inr refl))
     (λ e. refl, λ e w. absurd cc, λ e. inr refl, λ e. absurd cc)
-    (λ sound old. (
+    (λ known old. (
       start_waits old id c.find.ensures.valid none c.args.stamp c.args.need 1 c.get-in_range.ensures.in_range (omega arith) old.some_volume
           _ _ _ _ c.in-Err-Failed.ensures.volumes (same_found _ _ c.in-Ok-insert.ensures.found) step true false number 0 reaches c.in-Ok-insert.ensures.added (λ before after stepped. block_failed after stepped),
       calls _ (begins _ _) c.in-Err-Failed.ensures.time.nothing_else (shown old id c.find.ensures.valid step _ reaches waiting
@@ -73,8 +73,8 @@ returns-in-Err-Memory-clause-step g c cells stands =
     let reaches = reaches_same id _ _ same in
     takes (cells id) (step_of stands id c.find.ensures.valid none c.args.stamp c.args.need memory (cells id) (omega arith) (inl (is_absent stands id c.find.ensures.valid none)))
     (λ e. absurd cc, λ e w. absurd (not_waiting _ (is_absent stands id c.find.ensures.valid none) w), λ e. inl refl, λ e. absurd cc)
-    (λ sound old. (
-      stands_same _ _ _ _ _ _ _ _ sound cells id old same c.in-Err-Memory.ensures.volumes
+    (λ known old. (
+      stands_same _ _ _ _ _ _ _ _ known cells id old same c.in-Err-Memory.ensures.volumes
           (undone id _ _ _ _ none c.in-Ok-insert.ensures.added c.remove.ensures.removed) (same_found _ _ (c.remove.ensures.found ∙ c.in-Ok-insert.ensures.found)),
       calls _ (begins _ _) c.in-Err-Memory.ensures.time.nothing_else (shown old id c.find.ensures.valid Stays _ reaches (cells id)
           (stays_passes old id c.find.ensures.valid)),
@@ -101,7 +101,7 @@ returns-in-Err-Failed-create-clause-step g c cells stands =
     (reaches_create_at id 1 (writing_meta c.args.stamp) m c.find.ensures.valid (is_stamp-IsStamp c.args.stamp c.get-in_range.ensures.in_range) refl _ (c.as_str-2.ensures ∙ c.rbw_meta.ensures) _ _ c.in-Err-Failed-create.ensures.worlds) in
     takes waiting (step_of stands id c.find.ensures.valid none c.args.stamp c.args.need failed waiting (omega arith) (inr refl))
     (λ e. refl, λ e w. absurd cc, λ e. inr refl, λ e. absurd cc)
-    (λ sound old. (
+    (λ known old. (
       start_waits old id c.find.ensures.valid none c.args.stamp c.args.need 1 c.get-in_range.ensures.in_range (omega arith) old.some_volume
           _ _ _ _ (c.in-Err-Failed-create.ensures.volumes ∙ c.in-Ok-create.ensures.volumes) (same_found _ _ (c.set_state.ensures.found ∙ c.in-Ok-insert.ensures.found)) step true true b m reaches
           (restated id _ _ _ _ (Waiting true true) c.in-Ok-insert.ensures.added c.set_state.ensures.changed)
@@ -130,7 +130,7 @@ returns-in-Err-Memory-create-clause-step g c cells stands =
     (block_books (Some (entry_in id c.args.stamp c.args.need 1 (Waiting true false))) []) waiting) (sym (stepped.2 ∙ stepped.1)) meta_memory in
     takes waiting (step_of stands id c.find.ensures.valid none c.args.stamp c.args.need memory waiting (omega arith) (inr refl))
     (λ e. absurd cc, λ e w. omega (arith, same.1, c.in-Ok-create.ensures.number), λ e. inr refl, λ e. absurd cc)
-    (λ sound old. (
+    (λ known old. (
       start_waits old id c.find.ensures.valid none c.args.stamp c.args.need 1 c.get-in_range.ensures.in_range (omega arith) old.some_volume
           _ _ _ _ (c.in-Err-Memory-create.ensures.volumes ∙ c.in-Ok-create.ensures.volumes) (same_found _ _ c.in-Ok-insert.ensures.found) step true false b 0 reaches
           c.in-Ok-insert.ensures.added starts,
@@ -158,7 +158,7 @@ returns-clause-step g c cells stands =
     let listed = same_found _ _ (c.change.ensures.found ∙ c.in-Ok-insert.ensures.found) in
     takes (growing c.args.stamp None [] c.args.need) (step_of stands id c.find.ensures.valid none c.args.stamp c.args.need done (growing c.args.stamp None [] c.args.need) (omega arith) (refl, refl))
     (λ e. absurd cc, λ e w. absurd cc, λ e. absurd cc, λ e. refl)
-    (λ sound old. (
+    (λ known old. (
       start_grows old id c.find.ensures.valid none c.args.stamp c.args.need 1 c.get-in_range.ensures.in_range (omega arith) old.some_volume
           _ _ _ _ same_volumes listed b m reaches
           (subst (λ n. (other : ℕ) → Rattle.pool_state.specs.Books.entry_at c.change.new.self other ≡ (if other == id then Some (entry_in id c.args.stamp c.args.need 1 (Writing b n)) else old_entries other)) is_m
