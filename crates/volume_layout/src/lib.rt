@@ -2,11 +2,13 @@
 //! a volume.
 #![tactic(auto)]
 
+mod block_file;
 mod ids;
 mod names;
 mod paths;
 mod place;
 
+pub use block_file::BlockFile;
 pub use ids::{BlockId, Stamp};
 pub use names::{Named, names_have_one_reading, read_name};
 pub use paths::{
@@ -64,6 +66,10 @@ mod tests {
         assert_eq!(rt;
             dir_path(31, 7).as_str(),
             "current/finalized/subdir31/subdir7"
+        );
+        assert_eq!(rt;
+            BlockFile::WritingMeta(stamp).path(small).as_str(),
+            "current/rbw/blk_5_1001.meta"
         );
         assert_eq!(rt; START.is_before(place_of(small)), true);
         assert_eq!(rt; place_of(large).is_before(place_of(small)), false);
