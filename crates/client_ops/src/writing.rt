@@ -3,14 +3,15 @@
 ghost use Rattle.std.specs.Prelude.{◌≡◌, ◌≢◌, ◌⊎◌, ◌-◌, ◌<◌, ℕ, [], length, List, None, Some, IsErr, IsOk, IfOk, IfSome, IsErrOf, IsTrue, Option, Err, is_some};
 ghost use Rattle.disk_model.specs.Causes.{Rose};
 ghost use Rattle.disk_model.specs.Worlds.{World};
+ghost use Rattle.disk_model.specs.Marks.{GivenBetween, GoesOn};
 ghost use Rattle.map_model.specs.Cells.{Cells, growing, waiting};
 ghost use Rattle.map_model.specs.Sound.{nothing};
 ghost use Rattle.map_model.specs.Steps.{start_write};
 ghost use Rattle.pair_draft.specs.Writers.{writer_of, FailedOf};
 ghost use Rattle.pool_state.specs.declared.entry.Entry.{Entry};
-ghost use Rattle.pool_state.specs.Answers.{start_reply, GivenBetween};
+ghost use Rattle.pool_state.specs.Answers.{start_reply};
 ghost use Rattle.pool_state.specs.Books.{entry_at};
-ghost use Rattle.pool_state.specs.Stands.{Stands, StandsForSome, GoesOn};
+ghost use Rattle.pool_state.specs.Stands.{Stands, StandsForSome};
 ghost use Rattle.pool_state.specs.Tenures.{Takes};
 ghost use Rattle.pool_state.specs.Writers.{WriterStands};
 ghost use Rattle.client_ops.specs.Writing.{op_writer, fill_fault, FillStands, EndsWrite, EndsAsWrite};

@@ -5,3 +5,4 @@ pub mod TextOrder
 pub mod Found
 pub mod Placed
 pub mod Pieces
+pub mod GoingOn

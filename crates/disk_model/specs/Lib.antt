@@ -5,6 +5,8 @@ pub mod Told
 pub mod Moments
 pub mod Causes
 pub mod Readers
+pub mod Marks
+pub mod Looking
 pub mod Places
 pub mod Plain
 pub mod PlainLaws

@@ -12,7 +12,7 @@ use Rattle.script_lang.specs.declared.reply.Reply.{Reply}
 use Rattle.script_lang.specs.Reply.{reply_line}
 use Rattle.script_lang.specs.Script.{line_of}
 use Rattle.dn_play.specs.declared.ending.Ending.TheVariants.{SinkFault, NoMemory, Outside, Later}
-use Rattle.dn_play.specs.State.{RunState, Mark, IsLater, Turn, last_state}
+use Rattle.dn_play.specs.State.{RunState, Turn, last_state}
 use Rattle.dn_play.specs.Commands.{Trust}
 use Rattle.dn_play.specs.Lines.{Follows}
 use Rattle.dn_play.specs.Standing.{IsKnown, is_on_block, LineCarried, LeavesAllowed, AnyCells}
@@ -20,6 +20,7 @@ use Rattle.dn_play.specs.Script.{Script, is_blank, is_carried, script_after, goe
 use Rattle.disk_model.specs.Files.{Files}
 use Rattle.disk_model.specs.Told.{CanLeave}
 use Rattle.disk_model.specs.Causes.{Rose}
+use Rattle.disk_model.specs.Marks.{Mark, IsLater}
 use Rattle.pool_open.specs.declared.opening.ReopenFault.{ReopenFault}
 use Rattle.pool_open.specs.declared.opening.ReopenFault.TheVariants.{Failed, Memory as NoRoom, Later as TwoMetas}
 use Rattle.dn_play.specs.declared.ending.Ending.{Ending}
@@ -55,7 +56,7 @@ told_bad text fault column is h = elim h [ inl e ↦ absurd cc | inr e ↦ sym e
 
 -- the counts stay
 pub mark_stays : (mark : Mark) → IsLater mark mark
-mark_stays mark = record { faults = omega arith; next_number = omega arith; moment = omega arith }
+mark_stays mark = record { faults = omega arith; absences = omega arith; next_number = omega arith; moment = omega arith }
 
 ends_later : (Reopens : Type 0) (number : ℕ) (mark : Mark) → EndsAt Reopens (Later number) mark mark
 ends_later Reopens zero mark = mark_stays mark

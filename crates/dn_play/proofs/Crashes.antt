@@ -4,6 +4,7 @@ use Rattle.disk_model.specs.Files.{Files}
 use Rattle.disk_model.specs.Worlds.{World}
 use Rattle.disk_model.specs.Told.{CanLeave}
 use Rattle.disk_model.specs.Moments.{AddsOnly}
+use Rattle.disk_model.specs.Marks.{Mark}
 use Rattle.map_model.specs.Cells.{Cells}
 use Rattle.map_model.specs.Allows.{AllowsImage}
 use Rattle.map_model.specs.Sound.{Knowledge, matching, Fits, IsSound}
@@ -14,7 +15,7 @@ use Rattle.map_model.proofs.Soundness.{stands_is_sound}
 use Rattle.pool_state.specs.declared.entry.Entry.{Entry}
 use Rattle.pool_state.specs.Books.{block_books}
 use Rattle.pool_state.specs.Stands.{PoolStands}
-use Rattle.dn_play.specs.State.{RunState, Mark, Turn, last_state, last_mark}
+use Rattle.dn_play.specs.State.{RunState, Turn, last_state, last_mark}
 use Rattle.pool_state.proofs.Whole.{leaves_whole}
 use Rattle.map_model.specs.Copies.{OneWhole}
 use Rattle.dn_play.specs.Images.{AllowedByOne, AllowedSinceEach, LinesCrashSafe}

@@ -1,6 +1,7 @@
 -- The end of a whole write: what it leaves, and why it failed.
 use Rattle.std.proofs.Common.{◌≡◌, ◌-◌, inl, inr, ℕ, List, [], length, Option, None, Some, refl, sym, ◌∙◌, ap, subst, arith}
 use Rattle.disk_model.specs.Worlds.{World}
+use Rattle.disk_model.specs.Marks.{Mark}
 use Rattle.map_model.specs.Cells.{Cell, Cells, growing}
 use Rattle.map_model.specs.Stands.{Leftover}
 use Rattle.map_model.specs.Steps.{push, write, done, failed}
@@ -17,7 +18,7 @@ use Rattle.client_ops.specs.declared.writing.OpReply.TheVariants.{Ok as EndsOk, 
 use Rattle.map_model.specs.Sound.{Metas, Knowledge, matching, exactly, with_meta}
 use Rattle.client_ops.specs.Writing.{op_answer, EndLeaves, EndLearns}
 use Rattle.script_lang.specs.declared.reply.Reply.{Reply}
-use Rattle.dn_play.specs.State.{Numbers, Mark}
+use Rattle.dn_play.specs.State.{Numbers}
 use Rattle.dn_play.specs.Commands.{Trust, Says, LearnsOf, LearnsBy, MetasAfter, DisksFailed, FailsBy}
 use Rattle.dn_play.specs.Replies.{end_reply}
 use Rattle.dn_play.specs.Standing.{NotGrowing}

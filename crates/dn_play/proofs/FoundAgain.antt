@@ -5,6 +5,7 @@ use Rattle.disk_model.specs.Files.{Files}
 use Rattle.disk_model.specs.Worlds.{World}
 use Rattle.disk_model.specs.Told.{IsWorldOf, InEachWorld}
 use Rattle.disk_model.specs.Moments.{AddsOnly}
+use Rattle.disk_model.specs.Marks.{Mark}
 use Rattle.volume_layout.specs.Paths.{IsBlockId}
 use Rattle.map_model.specs.Cells.{Replica, Cell, Cells, absent, final, growing, unsure, waiting}
 use Rattle.map_model.specs.Copies.{Spot, BlockFiles, IsCopy, IsAlone, ReadsAs, OneWhole}
@@ -29,7 +30,7 @@ use Rattle.pool_open.specs.Outcome.{HasFiles, HasWholeFiles, ReadsAsOne, IsOpene
 use Rattle.pool_open.proofs.Shown.{shown_view}
 use Rattle.script_lang.specs.declared.Line.TheVariants.{Reopen}
 use Rattle.script_lang.specs.declared.reply.Reply.TheVariants.{Done}
-use Rattle.dn_play.specs.State.{RunState, Mark}
+use Rattle.dn_play.specs.State.{RunState}
 use Rattle.dn_play.specs.Commands.{Trust, any_disks, telling_disks, sound_disks}
 use Rattle.dn_play.specs.Lines.{CellsReopened}
 use Rattle.dn_play.specs.Images.{StaysCrashSafe}

@@ -4,10 +4,10 @@ use Rattle.disk_model.specs.Worlds.{World}
 use Rattle.disk_model.specs.Files.{Files}
 use Rattle.map_model.specs.Sound.{IsSound}
 use Rattle.disk_model.specs.Told.{CanLeave}
+use Rattle.disk_model.specs.Marks.{Mark}
 use Rattle.dn_play.proofs.Opening.{alike_start, only_start}
 use Rattle.dn_play.specs.declared.ending.Ending.{Ending}
 use Rattle.dn_play.specs.declared.ending.Ending.TheVariants.{Complete, Usage, SourceFault, SinkFault, NoMemory, Outside, OpenFault, Limit, Later}
-use Rattle.dn_play.specs.State.{Mark}
 use Rattle.dn_play.specs.Session.{Declines, status_of, status_at}
 use Rattle.dn_play.specs.Script.{script_of}
 use Rattle.dn_play.specs.Answer.{Closed}
@@ -64,7 +64,7 @@ run_without Faulty since mark told input taken taken' ending status is only k = 
       goes = inl (record {
         is_before = inl refl;
         nothing = refl;
-        counts = record { faults = omega arith; next_number = omega arith; moment = omega arith };
+        counts = record { faults = omega arith; absences = omega arith; next_number = omega arith; moment = omega arith };
         open_fault = λ e. absurd (cc e);
         later = λ e. absurd (cc e);
         images = λ start holds image s. alike_start start image (only_start told start image holds (only image s));

@@ -9,13 +9,14 @@ use Rattle.script_lang.specs.declared.Line.TheVariants.{Reopen}
 use Rattle.script_lang.specs.declared.reply.Reply.{Reply}
 use Rattle.dn_play.specs.declared.ending.Ending.{Ending}
 use Rattle.dn_play.specs.declared.ending.Ending.TheVariants.{Complete, Usage, SourceFault, SinkFault, NoMemory, Outside, OpenFault, Limit, Later}
-use Rattle.dn_play.specs.State.{RunState, Mark, Turn, last_mark, turn_lines, turn_replies}
+use Rattle.dn_play.specs.State.{RunState, Turn, last_mark, turn_lines, turn_replies}
 use Rattle.dn_play.specs.Commands.{any_disks}
 use Rattle.dn_play.specs.Lines.{Follows}
 use Rattle.dn_play.specs.Script.{script_of}
 use Rattle.dn_play.specs.Session.{status_of, status_at, last_line, Writes, WritesReplies, Shows, Reads, FirstCommands, Declines, text_of}
 use Rattle.dn_play.specs.Answer.{Closed, IsOfLines, NextReopens, EndsAt}
 use Rattle.disk_model.specs.Files.{Files}
+use Rattle.disk_model.specs.Marks.{Mark}
 use Rattle.dn_play.specs.Play.{Course, Goes, RunsPool, Runs}
 use Rattle.dn_play.proofs.Progress.{appends_append, take_behind, rose_from}
 

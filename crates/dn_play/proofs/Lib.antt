@@ -4,7 +4,6 @@ pub mod Composing
 pub mod Crashes
 pub mod FoundAgain
 pub mod Answering
-pub mod Marks
 pub mod Progress
 pub mod Opening
 pub mod LastLine

@@ -10,6 +10,7 @@ use Rattle.disk_model.specs.Files.{Files}
 use Rattle.disk_model.specs.Told.{IsWorldOf, InEachWorld, CanLeave, Leaves}
 use Rattle.disk_model.specs.Moments.{AddsOnly}
 use Rattle.disk_model.specs.Causes.{Rose}
+use Rattle.disk_model.specs.Marks.{GoesOn, mark_of}
 use Rattle.disk_model.proofs.Laws.{only_one, some_world}
 use Rattle.std.proofs.lemmas.Bool.{false≢true}
 use Rattle.pool_open.specs.Remaining.{Remains}
@@ -20,14 +21,14 @@ use Rattle.map_model.specs.Openings.{LeavesBlockFile, WaitsExactly, MakesCells, 
 use Rattle.map_model.specs.Sound.{Metas, matching, exactly, Fits, HasSoundCopies, IsSound}
 use Rattle.map_model.specs.Stands.{Leftover}
 use Rattle.pool_state.specs.declared.entry.Entry.{Entry}
-use Rattle.pool_state.specs.Stands.{GoesOn, PoolStands}
+use Rattle.pool_state.specs.Stands.{PoolStands}
 use Rattle.pair_draft.specs.Writers.{Writer}
 use Rattle.pool_open.specs.declared.opening.OpenFault.{OpenFault}
 use Rattle.pool_open.specs.Outcome.{HoldsImage, HasTwoMetas, HasSoundFiles, ReadsAsOne, IsOpened, Opens, fault_disks}
 use Rattle.dn_play.specs.declared.ending.Ending.{Ending}
 use Rattle.dn_play.specs.declared.ending.Ending.TheVariants.{OpenFault as OpenFailed, Later}
 use Rattle.dn_play.specs.State.{Numbers, RunState}
-use Rattle.dn_play.specs.Standing.{Standing, OpenWriter, NotGrowing, LeavesAllowed, mark_of}
+use Rattle.dn_play.specs.Standing.{Standing, OpenWriter, NotGrowing, LeavesAllowed}
 use Rattle.dn_play.specs.Session.{WritesReplies}
 use Rattle.dn_play.specs.Answer.{Played, IsOfLines}
 use Rattle.dn_play.specs.Play.{Course, IsBeforeOpened, RunsPool}
@@ -144,7 +145,7 @@ module _ {D S T R : Type 0} (g : Ghosts D S T R) (Faulty : ℕ → ℕ → Type 
         goes = inl (record {
           is_before = early;
           nothing = refl;
-          counts = record { faults = went.faults; next_number = went.next_number; moment = went.moment };
+          counts = record { faults = went.faults; absences = went.absences; next_number = went.next_number; moment = went.moment };
           open_fault = open_fault;
           later = later;
           images = λ start holds image s. reads_start known start holds reads image s;
@@ -179,7 +180,7 @@ module _ {D S T R : Type 0} (g : Ghosts D S T R) (Faulty : ℕ → ℕ → Type 
           metas_from_start = λ start holds.
               let shows = opens.shown (tells (g.worlds before) start holds) in
               shown_start (g.worlds before) start shows.world holds shows.is (λ files. (id : ℕ) → IsBlockId id → HasSoundCopies (Fits (exactly opens.metas) id) (files id)) shows.metas_are;
-          counts = record { faults = went.faults; next_number = went.next_number; moment = went.moment };
+          counts = record { faults = went.faults; absences = went.absences; next_number = went.next_number; moment = went.moment };
           follows = λ trust known. p.follows trust (known_on trust (g.worlds before) (g.worlds mid) went.honest.0
               (λ begins. opens.stands_by matching (sound_start (g.worlds before) begins.0 begins.1 begins.2)) known);
           at_exit = p.at_mark;

@@ -15,7 +15,7 @@ use Rattle.script_lang.specs.Reply.{reply_line}
 use Rattle.script_lang.specs.Script.{line_of}
 use Rattle.dn_play.specs.declared.ending.Ending.{Ending}
 use Rattle.dn_play.specs.declared.ending.Ending.TheVariants.{Complete, Usage, SourceFault, SinkFault, NoMemory, Outside, OpenFault, Limit, Later}
-use Rattle.dn_play.specs.State.{RunState, Mark, Turn, turn_lines, turn_replies, last_state, last_mark}
+use Rattle.dn_play.specs.State.{RunState, Turn, turn_lines, turn_replies, last_state, last_mark}
 use Rattle.dn_play.specs.Commands.{Trust, any_disks, telling_disks, sound_disks}
 use Rattle.dn_play.specs.Lines.{Follows}
 use Rattle.dn_play.specs.Standing.{IsKnown}
@@ -23,6 +23,7 @@ use Rattle.dn_play.specs.Script.{Script, AtEnd, AtOutside, AtLimit, AtLater, sto
 use Rattle.dn_play.specs.Session.{Shows, WritesReplies, text_of, Reads, FirstCommands, AllCommands}
 use Rattle.dn_play.specs.Answer.{Answered, Unanswered, FirstOfLine, SaysUpTo, SaysReopen, NextReopens, EndsAt, Played, IsOfLines, ending_at}
 use Rattle.disk_model.specs.Files.{Files}
+use Rattle.disk_model.specs.Marks.{Mark}
 use Rattle.map_model.specs.Cells.{Cells}
 use Rattle.dn_play.specs.Images.{AllowedSince, LinesCrashSafe}
 use Rattle.dn_play.proofs.Crashes.{crash_on}

@@ -12,7 +12,7 @@ use Rattle.pool_state.specs.declared.start_fault.StartFault.{StartFault}
 use Rattle.pool_state.specs.declared.start_fault.StartFault.TheVariants.{Exists as WasThere, None as WasAbsent, Writing as WasWriting, Waiting as WasWaiting, Unsure as WasUnsure, Failed as HasFailed, Memory as NoMemory}
 use Rattle.pool_state.specs.declared.deleting.DeleteFault.{DeleteFault}
 use Rattle.pool_state.specs.declared.deleting.DeleteFault.TheVariants.{None as NotThere, Writing as IsWrittenNow, Failed as RemovalFailed}
-use Rattle.pool_state.specs.Answers.{unlimited, start_fault, delete_fault, GivenBetween}
+use Rattle.pool_state.specs.Answers.{unlimited, start_fault, delete_fault}
 use Rattle.meta_file.specs.declared.verdict.Verdict.{Verdict}
 use Rattle.meta_file.specs.declared.verdict.Verdict.TheVariants.{Whole}
 use Rattle.meta_file.specs.Verdicts.{verdict_of}
@@ -23,8 +23,9 @@ use Rattle.pool_state.specs.Readers.{Lends, IsFaulty}
 use Rattle.script_lang.specs.declared.reply.Reply.{Reply}
 use Rattle.script_lang.specs.declared.reply.Reply.TheVariants.{Data}
 use Rattle.script_lang.specs.declared.Line.{Line}
-use Rattle.dn_play.specs.State.{Numbers, RunState, Mark}
+use Rattle.dn_play.specs.State.{Numbers, RunState}
 use Rattle.disk_model.specs.Files.{Files}
+use Rattle.disk_model.specs.Marks.{GivenBetween, Mark}
 use Rattle.dn_play.specs.Lines.{Does}
 use Rattle.dn_play.specs.Images.{CrashSafe}
 use Rattle.dn_play.specs.Commands.{Trust, any_disks, telling_disks, sound_disks, Says, Gives, LearnsBy, MetasAfter, begins_writer}

@@ -8,15 +8,16 @@ use Rattle.map_model.specs.Cells.{Cell, Cells, growing, waiting}
 use Rattle.map_model.specs.Steps.{Command, Step, Reply as Answer, failed, memory}
 use Rattle.pool_state.specs.declared.entry.Entry.{Entry}
 use Rattle.disk_model.specs.Files.{Files}
+use Rattle.disk_model.specs.Marks.{GivenBetween, Mark}
 use Rattle.map_model.specs.Stands.{Leftover}
-use Rattle.pool_state.specs.Answers.{unlimited, GivenBetween, StepsTo, TakesStep, IsQuiet}
+use Rattle.pool_state.specs.Answers.{unlimited, StepsTo, TakesStep, IsQuiet}
 use Rattle.dn_play.specs.Images.{CrashSafe}
 use Rattle.pool_state.specs.Stands.{with_cell, PoolStands}
 use Rattle.pair_draft.specs.Writers.{Writer, Keeps}
 use Rattle.pool_state.specs.Writers.{WriterStands}
 use Rattle.pool_state.proofs.Belonging.{stands_elsewhere}
 use Rattle.script_lang.specs.declared.reply.Reply.{Reply}
-use Rattle.dn_play.specs.State.{Numbers, RunState, Mark}
+use Rattle.dn_play.specs.State.{Numbers, RunState}
 use Rattle.dn_play.specs.Commands.{Trust, Says, FailsBy, begins_writer, MetasAfter, given}
 use Rattle.map_model.specs.Sound.{Metas, Knowledge, nothing, matching, exactly}
 use Rattle.pool_state.proofs.Changing.{stands_for_less}

@@ -14,11 +14,12 @@ use Rattle.script_lang.specs.declared.reply.Reply.{Reply}
 use Rattle.script_lang.specs.Script.{line_of}
 use Rattle.dn_play.specs.declared.ending.Ending.{Ending}
 use Rattle.dn_play.specs.declared.ending.Ending.TheVariants.{Complete, Usage, SourceFault, SinkFault, NoMemory, Outside, OpenFault, Limit, Later}
-use Rattle.dn_play.specs.State.{RunState, Mark, IsLater, Turn, turn_lines, turn_replies, last_state, last_mark}
+use Rattle.dn_play.specs.State.{RunState, Turn, turn_lines, turn_replies, last_state, last_mark}
 use Rattle.dn_play.specs.Commands.{Trust}
 use Rattle.dn_play.specs.Lines.{Follows}
 use Rattle.dn_play.specs.Images.{LinesCrashSafe}
 use Rattle.disk_model.specs.Files.{Files}
+use Rattle.disk_model.specs.Marks.{Mark, IsLater}
 use Rattle.map_model.specs.Cells.{Cells}
 use Rattle.dn_play.specs.Standing.{IsKnown}
 use Rattle.dn_play.specs.Script.{Script, is_blank, is_carried, script_after, prepend}

@@ -1,6 +1,7 @@
 -- One command on a block: its reply, the cell after it, and the cause of a failure.
 use Rattle.std.specs.Prelude.{ℕ, ◌≡◌, ◌<◌, ◌⊎◌, ◌==◌, ◌&&◌, Bool, true, false, if◌then◌else◌, List, length, Some}
 use Rattle.disk_model.specs.Causes.{Rose}
+use Rattle.disk_model.specs.Marks.{Mark}
 use Rattle.script_lang.specs.declared.reply.Reply.{Reply}
 use Rattle.script_lang.specs.declared.reply.Reply.TheVariants.{Done, Data, Exists, NoBlock, Writing, Waiting, Unsure, OldStamp, Full, TooLong, Failed, Memory, Over, NoWriter, Worn}
 use Rattle.map_model.specs.Cells.{Replica, Cell, waiting, final, unsure}
@@ -12,7 +13,7 @@ use Rattle.meta_file.specs.Verdicts.{verdict_of}
 use Rattle.pair_draft.specs.Checking.{IsOnLength}
 use Rattle.pool_state.specs.Answers.{unlimited}
 use Rattle.dn_play.specs.Replies.{read_reply}
-use Rattle.dn_play.specs.State.{Numbers, RunState, Mark}
+use Rattle.dn_play.specs.State.{Numbers, RunState}
 
 -- what is known of the disks: nothing, or that they tell their content, or also that each replica's meta file matched its bytes
 -- when they were opened first

@@ -2,12 +2,13 @@
 use Rattle.std.specs.Prelude.{ℕ, ◌⊎◌, List, [], ◌∷◌}
 use Rattle.disk_model.specs.Files.{Files}
 use Rattle.disk_model.specs.Moments.{AddsOnly}
+use Rattle.disk_model.specs.Marks.{Mark}
 use Rattle.map_model.specs.Cells.{Cells}
 use Rattle.map_model.specs.Allows.{AllowsImage}
 use Rattle.map_model.specs.Copies.{OneWhole}
 use Rattle.map_model.specs.Sound.{IsSound}
 use Rattle.pool_state.specs.Answers.{AllowedByEither}
-use Rattle.dn_play.specs.State.{RunState, Mark, Turn, last_state}
+use Rattle.dn_play.specs.State.{RunState, Turn, last_state}
 
 -- the cells of this state allow the image, or those after one of the lines
 abbrev pub AllowedByOne : RunState → List Turn → Files → Type 0

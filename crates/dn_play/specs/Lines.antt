@@ -8,7 +8,8 @@ use Rattle.script_lang.specs.declared.reply.Reply.TheVariants.{Done}
 use Rattle.map_model.specs.Cells.{Cells}
 use Rattle.map_model.specs.Steps.{start_write, push, finish, drop_write, write, read, delete, Reopened}
 use Rattle.pool_open.specs.Outcome.{IsOpened}
-use Rattle.dn_play.specs.State.{RunState, Mark, IsLater, Turn}
+use Rattle.disk_model.specs.Marks.{Mark, IsLater}
+use Rattle.dn_play.specs.State.{RunState, Turn}
 use Rattle.dn_play.specs.Commands.{Trust, any_disks, telling_disks, sound_disks, CommandStep}
 
 -- what closing the pool and opening it again leaves of its cells: no writer is open, and where the disks tell, each cell is as it

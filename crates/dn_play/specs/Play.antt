@@ -3,6 +3,7 @@ use Rattle.std.specs.Prelude.{ℕ, ◌≡◌, ◌⊎◌, List, [], ◌∷◌, Op
 use Rattle.disk_model.specs.Files.{Files}
 use Rattle.disk_model.specs.Worlds.{World}
 use Rattle.disk_model.specs.Causes.{Rose}
+use Rattle.disk_model.specs.Marks.{Mark, IsLater}
 use Rattle.volume_layout.specs.Paths.{IsBlockId}
 use Rattle.map_model.specs.Copies.{block_files, OneWhole}
 use Rattle.map_model.specs.Allows.{AllowsImage}
@@ -12,7 +13,7 @@ use Rattle.pool_open.specs.Outcome.{HoldsImage, HasTwoMetas, IsOpened}
 use Rattle.script_lang.specs.declared.reply.Reply.{Reply}
 use Rattle.dn_play.specs.declared.ending.Ending.{Ending}
 use Rattle.dn_play.specs.declared.ending.Ending.TheVariants.{NoMemory, OpenFault, Later}
-use Rattle.dn_play.specs.State.{RunState, Mark, IsLater, Turn, turn_lines, turn_replies, last_state, last_mark}
+use Rattle.dn_play.specs.State.{RunState, Turn, turn_lines, turn_replies, last_state, last_mark}
 use Rattle.dn_play.specs.Commands.{Trust}
 use Rattle.dn_play.specs.Lines.{Follows}
 use Rattle.dn_play.specs.Images.{AllowedSince, AllowedSinceEach}

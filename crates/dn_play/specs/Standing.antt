@@ -1,15 +1,15 @@
 -- When a session stands for the state of a run.
-use Rattle.std.specs.Prelude.{ℕ, ◌≡◌, ◌-◌, Bool, false, List, Option, None, MatchOption, option_map, ⊤, IsSome, nat_eq, ◌⊎◌}
+use Rattle.std.specs.Prelude.{ℕ, ◌≡◌, ◌-◌, Bool, false, List, Option, None, MatchOption, option_map, ⊤, IsSome, nat_eq}
 use Rattle.disk_model.specs.declared.disks.PoolDisks.{Ghosts}
 use Rattle.disk_model.specs.declared.disks.Draft as drafts
 use Rattle.disk_model.specs.declared.disks.SealedDraft as sealed
 use Rattle.disk_model.specs.declared.disks.Reader as readers
 use Rattle.disk_model.specs.Worlds.{World}
-use Rattle.disk_model.specs.Causes.{FaultyOne}
 use Rattle.indexmap.specs.IndexMap.{get}
 use Rattle.volume_layout.specs.Paths.{IsBlockId}
 use Rattle.disk_model.specs.Files.{Files}
 use Rattle.disk_model.specs.Told.{CanLeave}
+use Rattle.disk_model.specs.Marks.{Mark, mark_of, GivenBetween, faulty_of}
 use Rattle.map_model.specs.Allows.{AllowsImage}
 use Rattle.map_model.specs.Copies.{OneWhole}
 use Rattle.map_model.specs.Stands.{Leftover}
@@ -17,7 +17,6 @@ use Rattle.map_model.specs.Sound.{matching, exactly}
 use Rattle.map_model.specs.Cells.{Cell, Cells, absent, final, growing, unsure, waiting}
 use Rattle.map_model.specs.Steps.{Command}
 use Rattle.pool_state.specs.declared.entry.Entry.{Entry}
-use Rattle.pool_state.specs.Answers.{GivenBetween}
 use Rattle.pool_state.specs.Books.{entry_at, found_at}
 use Rattle.pool_state.specs.Stands.{PoolStands, Stands}
 use Rattle.pair_draft.specs.Writers.{Writer, writer_of}
@@ -26,7 +25,7 @@ use Rattle.script_lang.specs.declared.reply.Reply.{Reply}
 use Rattle.script_lang.specs.declared.Line.{Line}
 use Rattle.script_lang.specs.declared.Line.TheVariants.{Reopen}
 use Rattle.dn_play.specs.declared.session.Session.{Session}
-use Rattle.dn_play.specs.State.{Numbers, RunState, Mark}
+use Rattle.dn_play.specs.State.{Numbers, RunState}
 use Rattle.dn_play.specs.Commands.{Trust, any_disks, telling_disks, sound_disks, CommandStep}
 use Rattle.dn_play.specs.Lines.{Does}
 use Rattle.dn_play.specs.Script.{is_carried}
@@ -59,15 +58,6 @@ abbrev pub IsKnown : (Sound : Type 0) → Trust → Option (List World) → Type
 IsKnown Sound any_disks told = ⊤
 IsKnown Sound telling_disks told = IsSome told
 IsKnown Sound sound_disks told = IsSome told × Sound
-
--- the counts of a disk
-abbrev pub mark_of : {D S T R : Type 0} → Ghosts D S T R → D → Mark
-mark_of g disks = record { faults = g.faults disks; next_number = g.next_number disks; moment = g.moment disks }
-
--- some draft or reader failed whose number is one of these
-abbrev pub faulty_of : {S T R : Type 0} → drafts.Ghosts T S → readers.Ghosts R → ℕ → ℕ → Type 0
-faulty_of d r first last =
-    FaultyOne (λ draft. (d.place draft).number) (λ draft. d.faults draft) first last ⊎ FaultyOne (λ reader. r.number reader) (λ reader. r.faults reader) first last
 
 module _ {D S T R : Type 0} {g : Ghosts D S T R} {d : drafts.Ghosts T S} {s : sealed.Ghosts S} {r : readers.Ghosts R} where
   -- the open writer of a block

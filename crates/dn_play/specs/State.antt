@@ -1,5 +1,6 @@
 -- The state of a run, the disks' counts beside it, and the lines that were carried out.
-use Rattle.std.specs.Prelude.{ℕ, ◌≤◌, List, [], ◌∷◌, map}
+use Rattle.std.specs.Prelude.{ℕ, List, [], ◌∷◌, map}
+use Rattle.disk_model.specs.Marks.{Mark}
 use Rattle.script_lang.specs.declared.Line.{Line}
 use Rattle.script_lang.specs.declared.reply.Reply.{Reply}
 use Rattle.map_model.specs.Cells.{Cells}
@@ -16,18 +17,6 @@ pub record RunState : Type 0 where
   pub cells : Cells
   pub metas : Metas
   pub writers : ℕ → Numbers
-
--- what the pool's disks have counted: their faults, the number of their next draft or reader, and their moment
-pub record Mark : Type 0 where
-  pub faults : ℕ
-  pub next_number : ℕ
-  pub moment : ℕ
-
--- none of the three falls
-pub record IsLater (before after : Mark) : Type 0 where
-  pub faults : before.faults ≤ after.faults
-  pub next_number : before.next_number ≤ after.next_number
-  pub moment : before.moment ≤ after.moment
 
 -- a line that was carried out, its reply, and the state and the counts after it
 pub record Turn : Type 0 where

@@ -3,13 +3,13 @@ ghost use Rattle.std.specs.Prelude.{true, ◌≡◌, ◌≤◌, OnOk, OnErr, IfO
 ghost use Rattle.disk_model.specs.Causes.{Rose};
 ghost use Rattle.disk_model.specs.Files.{Files};
 ghost use Rattle.disk_model.specs.Told.{CanLeave};
-ghost use Rattle.pool_state.specs.Stands.{GoesOn};
+ghost use Rattle.disk_model.specs.Marks.{GoesOn, faulty_of, mark_of};
 ghost use Rattle.pool_open.specs.Outcome.{HasTwoMetas};
 ghost use Rattle.script_lang.specs.declared.Line.TheVariants.{Reopen};
 ghost use Rattle.dn_play.specs.Script.{is_carried};
 ghost use Rattle.dn_play.specs.State.{RunState};
 ghost use Rattle.dn_play.specs.Images.{StaysCrashSafe};
-ghost use Rattle.dn_play.specs.Standing.{SessionStands, SoundFor, LeavesAllowed, AnyCells, faulty_of, mark_of, SessionStandsForSome, SessionCarriesLine};
+ghost use Rattle.dn_play.specs.Standing.{SessionStands, SoundFor, LeavesAllowed, AnyCells, SessionStandsForSome, SessionCarriesLine};
 ghost use Rattle.dn_play.specs.Answer.{Answered, Unanswered, IsOfLines, reopen_ending};
 
 use crate::ending::Ending;

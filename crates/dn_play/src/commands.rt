@@ -3,7 +3,7 @@ ghost use Rattle.std.specs.Prelude.{true, ◌≡◌, ◌≢◌, ◌≤◌, ◌<�
 ghost use Rattle.indexmap.specs.IndexMap.{get, spare};
 ghost use Rattle.volume_layout.specs.Paths.{IsBlockId};
 ghost use Rattle.map_model.specs.Steps.{start_write, push, finish, drop_write, read, delete};
-ghost use Rattle.pool_state.specs.Stands.{GoesOn};
+ghost use Rattle.disk_model.specs.Marks.{GoesOn};
 ghost use Rattle.dn_play.specs.State.{RunState};
 ghost use Rattle.dn_play.specs.Standing.{SessionStands, is_on_block, SessionStandsForSome, SessionCarriesOut, SessionCarriesLine};
 

@@ -4,10 +4,10 @@ ghost use Rattle.std.specs.Io.KnownBytes.{IsAtEnd};
 ghost use Rattle.disk_model.specs.Causes.{Rose};
 ghost use Rattle.disk_model.specs.Files.{Files};
 ghost use Rattle.disk_model.specs.Told.{CanLeave};
-ghost use Rattle.pool_state.specs.Stands.{GoesOn};
+ghost use Rattle.disk_model.specs.Marks.{GoesOn, faulty_of, mark_of};
 ghost use Rattle.pool_open.specs.Outcome.{HasTwoMetas};
 ghost use Rattle.dn_play.specs.State.{RunState};
-ghost use Rattle.dn_play.specs.Standing.{SessionStands, SoundFor, LeavesAllowed, AnyCells, faulty_of, mark_of, SessionStandsForSome};
+ghost use Rattle.dn_play.specs.Standing.{SessionStands, SoundFor, LeavesAllowed, AnyCells, SessionStandsForSome};
 ghost use Rattle.dn_play.specs.Answer.{Played, IsOfLines, ending_at};
 
 use crate::answer::answer;

@@ -3,10 +3,10 @@ ghost use Rattle.std.specs.Prelude.{◌≡◌, ◌⊎◌, true, false, All, map,
 ghost use Rattle.std.specs.Io.KnownBytes.{IsAtEnd};
 ghost use Rattle.disk_model.specs.Causes.{Rose};
 ghost use Rattle.disk_model.specs.Told.{InEachWorld, CanLeave};
+ghost use Rattle.disk_model.specs.Marks.{faulty_of, mark_of};
 ghost use Rattle.map_model.specs.World.{DraftsAside};
 ghost use Rattle.dn_play.specs.Script.{script_of};
 ghost use Rattle.dn_play.specs.Session.{Declines, status_at};
-ghost use Rattle.dn_play.specs.Standing.{faulty_of, mark_of};
 ghost use Rattle.dn_play.specs.Outside.{words_fit, words_are_later};
 ghost use Rattle.dn_play.specs.Play.{Runs, OfOne};
 

@@ -3,7 +3,7 @@ ghost use Rattle.std.specs.Prelude.{◌≡◌, OnOk, OnErr, IsErrOf};
 ghost use Rattle.disk_model.specs.Causes.{Rose};
 ghost use Rattle.disk_model.specs.Files.{Files};
 ghost use Rattle.disk_model.specs.Told.{CanLeave};
-ghost use Rattle.pool_state.specs.Stands.{GoesOn};
+ghost use Rattle.disk_model.specs.Marks.{GoesOn};
 ghost use Rattle.pool_open.specs.Outcome.{HasTwoMetas};
 ghost use Rattle.script_lang.specs.declared.Line.TheVariants.{Reopen};
 ghost use Rattle.script_lang.specs.declared.reply.Reply.TheVariants.{Done};

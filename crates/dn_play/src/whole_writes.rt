@@ -1,7 +1,7 @@
 //! Writing a whole block in one line.
 ghost use Rattle.std.specs.Prelude.{◌≡◌, ◌<◌, ℕ};
 ghost use Rattle.map_model.specs.Steps.{write};
-ghost use Rattle.pool_state.specs.Stands.{GoesOn};
+ghost use Rattle.disk_model.specs.Marks.{GoesOn};
 ghost use Rattle.dn_play.specs.State.{RunState};
 ghost use Rattle.dn_play.specs.Standing.{SessionStands, SessionStandsForSome, SessionCarriesOut};
 

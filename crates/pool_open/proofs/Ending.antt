@@ -35,12 +35,12 @@ use Rattle.pool_open.proofs.Opens.{IsOpening, cleared_reads_back, surveyed, in_b
 
 module _ {D S T R : Type 0} (g : Ghosts D S T R) (old new : D) where
   -- a call that looks
-  pub looked : Remains (g.worlds old) (g.worlds new) → IsSome (g.worlds old) ↔ IsSome (g.worlds new) → g.faults old ≤ g.faults new → g.next_number new ≡ g.next_number old →
-      g.volume_count new ≡ g.volume_count old → Elapses (g.moment old) (g.moment new) (g.left_since old) (g.left_since new) (CanLeave (g.worlds new)) →
+  pub looked : Remains (g.worlds old) (g.worlds new) → IsSome (g.worlds old) ↔ IsSome (g.worlds new) → g.faults old ≤ g.faults new → g.absences old ≤ g.absences new →
+      g.next_number new ≡ g.next_number old → g.volume_count new ≡ g.volume_count old → Elapses (g.moment old) (g.moment new) (g.left_since old) (g.left_since new) (CanLeave (g.worlds new)) →
       OnlyLooks g old new
-  looked remains honest faults numbers volumes time = record {
+  looked remains honest faults absences numbers volumes time = record {
     remains = remains;
-    goes_on = record { honest = honest; faults = faults; next_number = omega (arith, numbers); moment = time.later; volume_count = volumes };
+    goes_on = record { honest = honest; faults = faults; absences = absences; next_number = omega (arith, numbers); moment = time.later; volume_count = volumes };
     images = λ t image left. elim (time.nothing_else t image left) [
       | inl earlier ↦ inl earlier
       | inr leaves ↦ inr (leaves_before (g.worlds old) (g.worlds new) remains image leaves)

@@ -4,7 +4,8 @@ use Rattle.disk_model.specs.Files.{Files}
 use Rattle.disk_model.specs.declared.disks.PoolDisks.{Ghosts}
 use Rattle.disk_model.specs.Worlds.{World}
 use Rattle.disk_model.specs.Told.{CanLeave}
-use Rattle.pool_state.specs.Stands.{GoesOn}
+use Rattle.disk_model.specs.Marks.{GoesOn}
+use Rattle.disk_model.proofs.GoingOn.{went_same, went_then}
 use Rattle.pool_survey.specs.Remaining.{Remains}
 use Rattle.pool_open.specs.Looking.{OnlyLooks}
 
@@ -16,30 +17,20 @@ module _ {D S T R : Type 0} (g : Ghosts D S T R) where
   pub looks_none : (one : D) → OnlyLooks g one one
   looks_none one = record {
     remains = λ world is. is;
-    goes_on = record { honest = (λ some. some, λ some. some); faults = omega arith; next_number = omega arith; moment = omega arith; volume_count = refl };
+    goes_on = went_same g one;
     images = λ t image left. inl left;
   }
 
-  pub goes_by : (old new : D) → IsSome (g.worlds old) ↔ IsSome (g.worlds new) → g.faults old ≤ g.faults new → g.next_number new ≡ g.next_number old → g.moment old ≤ g.moment new →
-      g.volume_count new ≡ g.volume_count old → GoesOn g old new
-  goes_by old new honest faults numbers moment volumes =
-      record { honest = honest; faults = faults; next_number = omega (arith, numbers); moment = moment; volume_count = volumes }
-
-  pub goes_then : (one two three : D) → GoesOn g one two → GoesOn g two three →
-      GoesOn g one three
-  goes_then one two three first second = record {
-    honest = (λ some. second.honest.0 (first.honest.0 some), λ some. first.honest.1 (second.honest.1 some));
-    faults = omega (arith, first.faults, second.faults);
-    next_number = omega (arith, first.next_number, second.next_number);
-    moment = omega (arith, first.moment, second.moment);
-    volume_count = second.volume_count ∙ first.volume_count;
-  }
+  pub goes_by : (old new : D) → IsSome (g.worlds old) ↔ IsSome (g.worlds new) → g.faults old ≤ g.faults new → g.absences old ≤ g.absences new → g.next_number new ≡ g.next_number old →
+      g.moment old ≤ g.moment new → g.volume_count new ≡ g.volume_count old → GoesOn g old new
+  goes_by old new honest faults absences numbers moment volumes =
+      record { honest = honest; faults = faults; absences = absences; next_number = omega (arith, numbers); moment = moment; volume_count = volumes }
 
   pub looks_then : (one two three : D) → OnlyLooks g one two →
       OnlyLooks g two three → OnlyLooks g one three
   looks_then one two three first second = record {
     remains = λ world is. first.remains world (second.remains world is);
-    goes_on = goes_then one two three first.goes_on second.goes_on;
+    goes_on = went_then g one two three first.goes_on second.goes_on;
     images = λ t image left. elim (second.images t image left) [
       | inl earlier ↦ first.images t image earlier
       | inr leaves ↦ inr (leaves_before (g.worlds one) (g.worlds two) first.remains image leaves)

@@ -2,7 +2,7 @@
 use Rattle.disk_model.specs.declared.disks.PoolDisks.{Ghosts}
 use Rattle.disk_model.specs.Told.{CanLeave}
 use Rattle.disk_model.specs.Moments.{AddsOnly}
-use Rattle.pool_state.specs.Stands.{GoesOn}
+use Rattle.disk_model.specs.Marks.{GoesOn}
 use Rattle.pool_survey.specs.Remaining.{Remains}
 
 -- Only calls were made that look: each world is one of those before, and what a crash could leave meanwhile is what one of them can leave.

@@ -3,7 +3,7 @@ ghost use Rattle.std.specs.Prelude.{◌≡◌, ◌≤◌, IsOk, IsErr, OnOk};
 ghost use Rattle.disk_model.specs.Causes.{Rose};
 ghost use Rattle.disk_model.specs.Moments.{AddsOnly};
 ghost use Rattle.disk_model.specs.Told.{InEachWorld};
-ghost use Rattle.pool_state.specs.Stands.{GoesOn};
+ghost use Rattle.disk_model.specs.Marks.{GoesOn};
 ghost use Rattle.pool_open.specs.Plan.{texts};
 ghost use Rattle.pool_open.specs.Clearing.{AreClear, ComesCleared, LeftCleared};
 

@@ -4,9 +4,9 @@ ghost use Rattle.disk_model.specs.Causes.{Rose};
 ghost use Rattle.disk_model.specs.Files.{Files};
 ghost use Rattle.disk_model.specs.Moments.{AddsOnly};
 ghost use Rattle.disk_model.specs.Told.{InEachWorld, CanLeave};
+ghost use Rattle.disk_model.specs.Marks.{GoesOn};
 ghost use Rattle.map_model.specs.World.{DraftsAside};
 ghost use Rattle.pool_state.specs.Books.{entry_at, found_at};
-ghost use Rattle.pool_state.specs.Stands.{GoesOn};
 ghost use Rattle.pool_open.specs.Remaining.{Remains};
 ghost use Rattle.pool_open.specs.Outcome.{disks_of, HoldsImage, HasTwoMetas, Opens, ReadsAsOne};
 

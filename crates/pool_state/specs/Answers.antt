@@ -1,5 +1,5 @@
 -- What a tenure answers, and the step that it takes.
-use Rattle.std.specs.Prelude.{ℕ, ◌≤◌, ◌<◌, ◌^◌, ◌⊎◌, Bool, true, false, Option, Result, Ok, Err, IsSomeAnd}
+use Rattle.std.specs.Prelude.{ℕ, ◌^◌, ◌⊎◌, Bool, true, false, Option, Result, Ok, Err, IsSomeAnd}
 use Rattle.disk_model.specs.Files.{Files}
 use Rattle.disk_model.specs.Moments.{AddsOnly}
 use Rattle.map_model.specs.Allows.{AllowsImage}
@@ -93,11 +93,6 @@ pub record IsQuiet (cells : Cells) (Stood StandsFor : Knowledge → Cells → Ty
   pub images : AddsOnly past since (AllowsImage cells)
   pub sound_images : Stood matching cells → AddsOnly past since IsSound
   pub whole_images : AddsOnly past since OneWhole
-
--- the number was given between these two next numbers
-pub record GivenBetween (first last number : ℕ) : Type 0 where
-  pub since : first ≤ number
-  pub before : number < last
 
 -- the entry is that of an open writer
 abbrev pub IsWritingState : State → Type 0

@@ -1,5 +1,5 @@
 -- When a pool stands for cells.
-use Rattle.std.specs.Prelude.{ℕ, ◌≡◌, ◌≤◌, ◌==◌, if◌then◌else◌, Bool, false, IsFalse, List, [], Option, None, Some, IfSome, IsSome, ◌↔◌, option_map}
+use Rattle.std.specs.Prelude.{ℕ, ◌≡◌, ◌≤◌, ◌==◌, if◌then◌else◌, Bool, false, IsFalse, List, [], Option, None, Some, IfSome, option_map}
 use Rattle.disk_model.specs.declared.disks.PoolDisks.{Ghosts}
 use Rattle.disk_model.specs.declared.disks.Draft as drafts
 use Rattle.disk_model.specs.declared.disks.SealedDraft as sealed
@@ -53,14 +53,6 @@ pub record PoolStands (told : Option (List World)) (volumes : ℕ) (entries : �
 pub record HoldNoBlock (told : Option (List World)) : Type 0 where
   pub none : InEachWorld told (λ world. (id : ℕ) → IsBlockId id → (vol : ℕ) (file : File) → IsFalse (is_standing (view_of world id vol file)))
   pub aside : InEachWorld told DraftsAside
-
--- the disks went on: they tell as before, no count falls, and they have their volumes
-pub record GoesOn {D S T R : Type 0} (g : Ghosts D S T R) (old new : D) : Type 0 where
-  pub honest : IsSome (g.worlds old) ↔ IsSome (g.worlds new)
-  pub faults : g.faults old ≤ g.faults new
-  pub next_number : g.next_number old ≤ g.next_number new
-  pub moment : g.moment old ≤ g.moment new
-  pub volume_count : g.volume_count new ≡ g.volume_count old
 
 module _ {D S T R : Type 0} {g : Ghosts D S T R} {d : drafts.Ghosts T S} {s : sealed.Ghosts S} {r : readers.Ghosts R} where
   -- a pool stands for cells, of whose meta files so much is known

@@ -1,6 +1,7 @@
 //! Removing files of a block.
 ghost use Rattle.std.specs.Prelude.{◌≡◌, ◌≢◌, ◌≤◌, ◌<◌, ℕ, true, [], Some, length, suc, map, All, IsOk, IsErr, IfOk, IsTrue, OnOk, if◌then◌else◌};
 ghost use Rattle.disk_model.specs.Causes.{Rose};
+ghost use Rattle.disk_model.specs.Marks.{GoesOn};
 ghost use Rattle.volume_layout.specs.Paths.{IsBlockId};
 ghost use Rattle.map_model.specs.Cells.{Cells};
 ghost use Rattle.map_model.specs.Sound.{nothing};
@@ -8,7 +9,7 @@ ghost use Rattle.map_model.specs.Slots.{is_file};
 ghost use Rattle.pool_state.specs.Books.{entry_at, found_at, file_is, with_state, IsFirstOf};
 ghost use Rattle.pool_state.specs.Reaching.{RemovesFiles};
 ghost use Rattle.pool_state.specs.Tenures.{Rests};
-ghost use Rattle.pool_state.specs.Stands.{Stands, StandsForSome, GoesOn};
+ghost use Rattle.pool_state.specs.Stands.{Stands, StandsForSome};
 ghost use Rattle.pool_state.specs.declared.entry.State.TheVariants.{Waiting};
 
 use crate::entry::{Entry, State};

@@ -1,6 +1,7 @@
 //! Deleting a block.
 ghost use Rattle.std.specs.Prelude.{◌≡◌, ◌≢◌, ℕ, None, Some, IfSome, IsErr, IsOk, IsErrOf};
 ghost use Rattle.disk_model.specs.Causes.{Rose};
+ghost use Rattle.disk_model.specs.Marks.{GoesOn};
 ghost use Rattle.map_model.specs.Cells.{Cells};
 ghost use Rattle.map_model.specs.Sound.{nothing};
 ghost use Rattle.map_model.specs.Steps.{Step, delete, delete_refusal};
@@ -8,7 +9,7 @@ ghost use Rattle.pool_state.specs.Answers.{unlimited, delete_fault};
 ghost use Rattle.pool_state.specs.Tenures.{Deletes, state_refusal};
 ghost use Rattle.volume_layout.specs.Paths.{IsBlockId};
 ghost use Rattle.pool_state.specs.Books.{entry_at};
-ghost use Rattle.pool_state.specs.Stands.{Stands, StandsForSome, GoesOn};
+ghost use Rattle.pool_state.specs.Stands.{Stands, StandsForSome};
 ghost use Rattle.pool_state.specs.declared.entry.State.TheVariants.{Finalised, Unsure, Waiting};
 
 use crate::cleaning::remove_files;

@@ -1,13 +1,14 @@
 //! The end of a write.
 ghost use Rattle.std.specs.Prelude.{◌≡◌, ◌≢◌, ℕ, List, None, Some, false, IsErr, IsOk};
 ghost use Rattle.disk_model.specs.Causes.{Rose};
+ghost use Rattle.disk_model.specs.Marks.{GoesOn};
 ghost use Rattle.map_model.specs.Cells.{Cells, absent, final, growing, unsure, waiting};
 ghost use Rattle.map_model.specs.Sound.{nothing};
 ghost use Rattle.map_model.specs.Steps.{Command, Step, finish, drop_write, failed};
 ghost use Rattle.pool_state.specs.Answers.{unlimited, finish_reply, IsWritten};
 ghost use Rattle.pool_state.specs.Books.{entry_at};
 ghost use Rattle.pool_state.specs.Tenures.{Takes, PairBelongs, Finishes};
-ghost use Rattle.pool_state.specs.Stands.{Stands, StandsForSome, GoesOn};
+ghost use Rattle.pool_state.specs.Stands.{Stands, StandsForSome};
 ghost use Rattle.pair_draft.specs.Writers.{writer_of};
 ghost use Rattle.pool_state.specs.Writers.{meta_of, WriterBelongs};
 

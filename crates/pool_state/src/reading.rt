@@ -3,14 +3,15 @@ ghost use Rattle.std.specs.Prelude.{◌≡◌, ◌⊎◌, ◌≤◌, ◌<◌, �
 ghost use Rattle.disk_model.specs.Causes.{Rose};
 ghost use Rattle.disk_model.specs.Moments.{AddsOnly};
 ghost use Rattle.disk_model.specs.Told.{NoDraftAt, CanLeave, PicksOne, StandsBeforeOrAfter};
+ghost use Rattle.disk_model.specs.Marks.{GivenBetween, GoesOn};
 ghost use Rattle.map_model.specs.Cells.{Cells};
 ghost use Rattle.map_model.specs.Sound.{Knowledge, nothing};
 ghost use Rattle.map_model.specs.Slots.{path_of};
 ghost use Rattle.map_model.specs.Steps.{Step, read};
-ghost use Rattle.pool_state.specs.Answers.{unlimited, start_fault, read_fault, GivenBetween};
+ghost use Rattle.pool_state.specs.Answers.{unlimited, start_fault, read_fault};
 ghost use Rattle.pool_state.specs.Books.{entry_at, file_is};
 ghost use Rattle.pool_state.specs.Tenures.{Rests};
-ghost use Rattle.pool_state.specs.Stands.{Stands, StandsForSome, GoesOn};
+ghost use Rattle.pool_state.specs.Stands.{Stands, StandsForSome};
 ghost use Rattle.pool_state.specs.Readers.{reader_bytes, block_bytes, meta_bytes, file_of, Lends, AreFiles};
 
 use crate::entry::State;

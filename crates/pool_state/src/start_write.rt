@@ -1,14 +1,15 @@
 //! The start of a fresh write.
 ghost use Rattle.std.specs.Prelude.{◌≡◌, ◌≢◌, ◌<◌, ◌≤◌, ℕ, ◌^◌, ◌⊎◌, [], None, Err, IsErr, IsOk, IfOk, IfSome, IsErrOf};
 ghost use Rattle.disk_model.specs.Causes.{Rose};
+ghost use Rattle.disk_model.specs.Marks.{GivenBetween, GoesOn};
 ghost use Rattle.map_model.specs.Cells.{Cells, absent, growing, waiting};
 ghost use Rattle.map_model.specs.Sound.{nothing};
 ghost use Rattle.map_model.specs.Steps.{Step, start_write, memory};
 ghost use Rattle.volume_layout.specs.Paths.{IsBlockId};
-ghost use Rattle.pool_state.specs.Answers.{unlimited, start_fault, start_reply, write_fault, GivenBetween};
+ghost use Rattle.pool_state.specs.Answers.{unlimited, start_fault, start_reply, write_fault};
 ghost use Rattle.pool_state.specs.Books.{entry_at};
 ghost use Rattle.pool_state.specs.Tenures.{Takes};
-ghost use Rattle.pool_state.specs.Stands.{Stands, StandsForSome, GoesOn};
+ghost use Rattle.pool_state.specs.Stands.{Stands, StandsForSome};
 ghost use Rattle.pair_draft.specs.Writers.{writer_of};
 ghost use Rattle.pool_state.specs.Writers.{WriterStands};
 

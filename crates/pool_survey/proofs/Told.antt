@@ -3,13 +3,14 @@ use Rattle.std.proofs.Common.{◌≡◌, ◌≤◌, ℕ, List, [], ◌∷◌, in
 use Rattle.std.specs.Prelude.{◌↔◌, IsSome, is_some}
 use Rattle.std.proofs.lemmas.Bool.{false≢true}
 use Rattle.std.proofs.lemmas.Option.{same_Some}
+use Rattle.disk_model.specs.declared.disks.PoolDisks.{Ghosts}
 use Rattle.disk_model.specs.Files.{Files}
 use Rattle.disk_model.specs.Worlds.{World}
 use Rattle.disk_model.specs.Told.{IsWorldOf, InEachWorld, CanLeave, PicksOne}
 use Rattle.disk_model.specs.Moments.{Elapses}
 use Rattle.disk_model.proofs.Laws.{only_one, from_done, told_list, is_told}
 use Rattle.disk_model.specs.Causes.{Rose}
-use Rattle.pool_survey.specs.Looking.{TellOne, HaveLooked}
+use Rattle.disk_model.specs.Looking.{TellOne, HaveLooked}
 use Rattle.pool_survey.specs.Remaining.{Remains}
 
 not_some : (told : Option (List World)) → (IsSome told → ⊥) → told ≡ None
@@ -91,21 +92,21 @@ no_run now past can counts = record {
 pub rose_since : (before between now : ℕ) → before ≤ between → Rose between now → Rose before now
 rose_since before between now later rose = omega (arith, later, rose)
 
-module _ {D : Type 0} {W : D → Option (List World)} {M : D → ℕ} {L : D → ℕ → Files → Type 0} {F A N V : D → ℕ} where
-  pub looked_on : {old mid new : D} → HaveLooked W M L F A N V old mid → HaveLooked W M L F A N V mid new → HaveLooked W M L F A N V old new
+module _ {D S T R : Type 0} {g : Ghosts D S T R} where
+  pub looked_on : {old mid new : D} → HaveLooked g old mid → HaveLooked g mid new → HaveLooked g old new
   looked_on {old} {mid} {new} first second = record {
     worlds = second.worlds ∙ first.worlds;
     time = runs_on second.worlds first.time second.time;
-    faults = (let a : F old ≤ F mid = first.faults in let b : F mid ≤ F new = second.faults in omega (arith, a, b));
-    absences = (let a : A old ≤ A mid = first.absences in let b : A mid ≤ A new = second.absences in omega (arith, a, b));
+    faults = omega (arith, first.faults, second.faults);
+    absences = omega (arith, first.absences, second.absences);
     numbers = second.numbers ∙ first.numbers;
     volumes = second.volumes ∙ first.volumes;
   }
 
-  pub no_look : (disks : D) → ((image : Files) → CanLeave (W disks) image → L disks (M disks) image) → HaveLooked W M L F A N V disks disks
+  pub no_look : (disks : D) → ((image : Files) → CanLeave (g.worlds disks) image → g.left_since disks (g.moment disks) image) → HaveLooked g disks disks
   no_look disks counts = record {
     worlds = refl;
-    time = no_run (M disks) (L disks) (CanLeave (W disks)) counts;
+    time = no_run (g.moment disks) (g.left_since disks) (CanLeave (g.worlds disks)) counts;
     faults = omega arith;
     absences = omega arith;
     numbers = refl;

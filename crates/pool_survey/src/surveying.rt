@@ -3,9 +3,9 @@ ghost use Rattle.std.specs.Prelude.{◌≡◌, ◌≤◌, ◌<◌, ◌↔◌, If
 ghost use Rattle.disk_model.specs.Causes.{HasCause, Rose};
 ghost use Rattle.disk_model.specs.Moments.{Elapses};
 ghost use Rattle.disk_model.specs.Told.{CanLeave, InEachWorld, PicksOne};
+ghost use Rattle.disk_model.specs.Looking.{TellOne, HaveLooked};
 ghost use Rattle.pool_survey.specs.Exact.{IsSurveyOf};
 ghost use Rattle.pool_survey.specs.Found.{AreBlocks};
-ghost use Rattle.pool_survey.specs.Looking.{TellOne, HaveLooked};
 ghost use Rattle.pool_survey.specs.Regions.{NoneFound, AreExact, AreSameOutside, in_row, in_finalised};
 ghost use Rattle.pool_survey.specs.Remaining.{Remains};
 
@@ -45,7 +45,7 @@ fn survey_row<D: PoolDisks>(
     ensures blocks { OnOk result (AreBlocks blocks.new) }
     ensures exact { OnOk result (InEachWorld (D.worlds disks.new) (λ world. AreExact (in_row d1) world vol blocks.new)) }
     ensures others { OnOk result (AreSameOutside (in_row d1) blocks.old blocks.new) }
-    ensures looked { HaveLooked D.worlds D.moment D.left_since D.faults D.absences D.next_number D.volume_count disks.old disks.new }
+    ensures looked { HaveLooked D.PoolDisks disks.old disks.new }
     ensures failed { IsErrOf result DiskError.Failed → Rose (D.faults disks.old) (D.faults disks.new) }
 {
     for d2 in 0..FAN_OUT {
@@ -70,7 +70,7 @@ fn survey_finalised<D: PoolDisks>(
     ensures blocks { OnOk result (AreBlocks blocks.new) }
     ensures exact { OnOk result (InEachWorld (D.worlds disks.new) (λ world. AreExact in_finalised world vol blocks.new)) }
     ensures others { OnOk result (AreSameOutside in_finalised blocks.old blocks.new) }
-    ensures looked { HaveLooked D.worlds D.moment D.left_since D.faults D.absences D.next_number D.volume_count disks.old disks.new }
+    ensures looked { HaveLooked D.PoolDisks disks.old disks.new }
     ensures failed { IsErrOf result DiskError.Failed → Rose (D.faults disks.old) (D.faults disks.new) }
 {
     for d1 in 0..FAN_OUT {

@@ -35,7 +35,7 @@ carry_out-requires-clause-command g c = sym c.is_carried_out.ensures ∙ c.if-no
 pub returns-in-Err-clause-err : goal.returns-in-Err-clause-err
 returns-in-Err-clause-err g c state standing =
     let on = c.in-Err.ensures.goes_on in
-    unanswered_reopen state (record { faults = on.faults; next_number = on.next_number; moment = on.moment }) (now_allowed standing.pool (g.met.D.PoolDisks.only_now c.args.session.now.pool.disks))
+    unanswered_reopen state (record { faults = on.faults; absences = on.absences; next_number = on.next_number; moment = on.moment }) (now_allowed standing.pool (g.met.D.PoolDisks.only_now c.args.session.now.pool.disks))
     (c.in-Err.ensures.err state standing) (λ image leaves. g.met.D.PoolDisks.counts_now c.carry_out.new.session.pool.disks _ image on.moment leaves)
     (g.met.D.PoolDisks.only_now c.args.session.now.pool.disks) (leaves_safe standing.pool) _ _ _ _ c.in-Err.fault _ c.reopen_ending_of.ensures
     (told_ok c.args.text.now c.in-Ok.line c.in-Ok.ensures.line ∙ ap Ok (c.in-Err.ensures.reopens refl)) (λ e. c.in-Err.ensures.failed (ap Err e))
@@ -46,7 +46,7 @@ returns-in_default-write_reply-clause-err g c state standing =
     let line = c.in-Ok-carry_out.ensures.ok state standing in
     unanswered_less {StandsFor = SessionStands c.carry_out.new.session}
     (unanswered_unshown (now_allowed standing.pool (g.met.D.PoolDisks.only_now c.args.session.now.pool.disks)) _ (g.K.Sink.taken c.args.sink.now) _ _ c.in-Ok.line c.in-Ok-carry_out.reply (told_ok c.args.text.now c.in-Ok.line c.in-Ok.ensures.line) (not_blank c.in-Ok.line c.in_default.not-Blank) (sym c.is_carried_out.ensures ∙ c.if-not-is_carried_out.false)
-    (record { faults = on.faults; next_number = on.next_number; moment = on.moment }) line (now_allowed line.stands.pool (g.met.D.PoolDisks.only_now c.carry_out.new.session.pool.disks)))
+    (record { faults = on.faults; absences = on.absences; next_number = on.next_number; moment = on.moment }) line (now_allowed line.stands.pool (g.met.D.PoolDisks.only_now c.carry_out.new.session.pool.disks)))
     (λ s stood. leaves_safe stood.pool)
 
 pub returns-in-Ok-write_all-clause-ok : goal.returns-in-Ok-write_all-clause-ok
@@ -54,7 +54,7 @@ returns-in-Ok-write_all-clause-ok g c state standing =
     let on = c.in-Ok-carry_out.ensures.goes_on in
     let line = c.in-Ok-carry_out.ensures.ok state standing in
     answered_command (now_allowed standing.pool (g.met.D.PoolDisks.only_now c.args.session.now.pool.disks)) _ _ c.args.number _ c.in-Ok.line c.in-Ok-carry_out.reply (told_ok c.args.text.now c.in-Ok.line c.in-Ok.ensures.line) (not_blank c.in-Ok.line c.in_default.not-Blank) (sym c.is_carried_out.ensures ∙ c.if-not-is_carried_out.false)
-    (record { faults = on.faults; next_number = on.next_number; moment = on.moment }) line (now_allowed line.stands.pool (g.met.D.PoolDisks.only_now c.carry_out.new.session.pool.disks))
+    (record { faults = on.faults; absences = on.absences; next_number = on.next_number; moment = on.moment }) line (now_allowed line.stands.pool (g.met.D.PoolDisks.only_now c.carry_out.new.session.pool.disks))
     (subst (Appends (g.K.Sink.taken c.args.sink.now) (g.K.Sink.taken c.write_all.new.sink)) (c.deref.ensures.value ∙ c.in-Ok-write_reply.ensures) c.in-Ok-write_all.ensures.ok)
 
 pub returns-clause-err : goal.returns-clause-err
@@ -63,6 +63,6 @@ returns-clause-err g c state standing =
     let line = c.in-Ok-carry_out.ensures.ok state standing in
     unanswered_less {StandsFor = SessionStands c.carry_out.new.session}
     (unanswered_cut (now_allowed standing.pool (g.met.D.PoolDisks.only_now c.args.session.now.pool.disks)) _ _ _ _ c.in-Ok.line c.in-Ok-carry_out.reply (told_ok c.args.text.now c.in-Ok.line c.in-Ok.ensures.line) (not_blank c.in-Ok.line c.in_default.not-Blank) (sym c.is_carried_out.ensures ∙ c.if-not-is_carried_out.false)
-    (record { faults = on.faults; next_number = on.next_number; moment = on.moment }) line (now_allowed line.stands.pool (g.met.D.PoolDisks.only_now c.carry_out.new.session.pool.disks))
+    (record { faults = on.faults; absences = on.absences; next_number = on.next_number; moment = on.moment }) line (now_allowed line.stands.pool (g.met.D.PoolDisks.only_now c.carry_out.new.session.pool.disks))
     (subst (AppendsFront (g.K.Sink.taken c.args.sink.now) (g.K.Sink.taken c.write_all.new.sink)) (c.deref.ensures.value ∙ c.in-Ok-write_reply.ensures) c.in-Err-write_all.ensures.err))
     (λ s stood. leaves_safe stood.pool)

@@ -1,10 +1,11 @@
 use Rattle.std.proofs.Common.{ap, sym, ◌∙◌, subst, Ok, Err, arith}
 use Rattle.dn_play.specs.declared.ending.Ending.{Ending}
 use Rattle.dn_play.specs.Answer.{Played}
-use Rattle.dn_play.specs.Standing.{SessionStands, SoundFor, LeavesAllowed, AnyCells, faulty_of, mark_of}
+use Rattle.disk_model.specs.Marks.{faulty_of, mark_of}
+use Rattle.dn_play.specs.Standing.{SessionStands, SoundFor, LeavesAllowed, AnyCells}
 use Rattle.dn_play.proofs.Progress.{starts, goes_on_by, played_nothing, played_complete, played_fault, played_unanswered, played_less, not_complete, not_later, not_sink, from_source, rose_from, ends_lines, answered_complete, answered_source}
 use Rattle.dn_play.proofs.Crashes.{now_allowed, leaves_safe}
-use Rattle.dn_play.proofs.Marks.{went_same, went_then}
+use Rattle.disk_model.proofs.GoingOn.{went_same, went_then}
 use Rattle.dn_play.proofs.lines.play_lines.Goals as goal
 
 pub returns-in_default-clause-played : goal.returns-in_default-clause-played

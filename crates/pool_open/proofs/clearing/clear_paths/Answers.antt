@@ -7,7 +7,8 @@ use Rattle.disk_model.proofs.Laws.{goes_on}
 use Rattle.pool_open.specs.Plan.{texts}
 use Rattle.pool_open.specs.Clearing.{LeftCleared}
 use Rattle.pool_open.proofs.Lists.{text_at}
-use Rattle.pool_open.proofs.Looks.{goes_by, goes_then}
+use Rattle.disk_model.proofs.GoingOn.{went_then}
+use Rattle.pool_open.proofs.Looks.{goes_by}
 use Rattle.pool_open.proofs.Removals.{comes_more, left_more, clear_more, all_clear}
 use Rattle.pool_open.proofs.clearing.clear_paths.Goals as goal
 
@@ -46,10 +47,10 @@ loop-at-preserved g c =
           c.in_ok-remove.ensures.ok c.loop-at.invariant.clear;
       images = goes_on (LeftCleared (texts c.args.paths.now) (g.D.PoolDisks.worlds c.args.disks.now)) c.loop-at.invariant.images c.remove.ensures.time
           (left_more (texts c.args.paths.now) c.as_str.result.now has (g.D.PoolDisks.worlds c.args.disks.now) (g.D.PoolDisks.worlds c.args.disks.now) (g.D.PoolDisks.worlds c.remove.new.self) comes);
-      goes_on = goes_then g.D.PoolDisks c.args.disks.now c.loop-at.disks c.remove.new.self
+      goes_on = went_then g.D.PoolDisks c.args.disks.now c.loop-at.disks c.remove.new.self
           c.loop-at.invariant.goes_on
           (goes_by g.D.PoolDisks c.loop-at.disks c.remove.new.self
-          c.remove.ensures.worlds.honest c.remove.ensures.cause.later c.remove.ensures.numbers c.remove.ensures.time.later c.remove.ensures.volumes);
+          c.remove.ensures.worlds.honest c.remove.ensures.cause.later c.remove.ensures.absences c.remove.ensures.numbers c.remove.ensures.time.later c.remove.ensures.volumes);
     }
 
 pub returns-clause-all : goal.returns-clause-all

@@ -1,8 +1,8 @@
 use Rattle.std.proofs.Common.{◌≡◌, ◌<◌, ℕ, [], get_or}
 use Rattle.disk_model.specs.Told.{InEachWorld}
 use Rattle.disk_model.specs.Moments.{AddsOnly}
+use Rattle.disk_model.specs.Marks.{GoesOn}
 use Rattle.map_model.specs.Slots.{empty, slot_at}
-use Rattle.pool_state.specs.Stands.{GoesOn}
 use Rattle.pool_open.specs.Plan.{texts}
 use Rattle.pool_open.specs.Clearing.{ComesCleared, LeftCleared}
 use Rattle.pool_open.proofs.clearing.clear_paths.Given as goal

@@ -26,6 +26,7 @@ loop-at-preserved g c = record {
       record {
         honest = (λ told. c.remove.ensures.worlds.honest.0 (was.honest.0 told), λ told. was.honest.1 (c.remove.ensures.worlds.honest.1 told));
         faults = omega (arith, was.faults, c.remove.ensures.cause.later);
+        absences = omega (arith, was.absences, c.remove.ensures.absences);
         next_number = omega (arith, was.next_number, c.remove.ensures.numbers);
         moment = omega (arith, was.moment, c.remove.ensures.time.later);
         volume_count = c.remove.ensures.volumes ∙ was.volume_count;

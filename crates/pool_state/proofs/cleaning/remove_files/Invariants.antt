@@ -1,6 +1,6 @@
 use Rattle.std.specs.Prelude.{map}
 use Rattle.pool_state.specs.Books.{file_is}
-use Rattle.pool_state.specs.Stands.{GoesOn}
+use Rattle.disk_model.specs.Marks.{GoesOn}
 use Rattle.pool_state.proofs.Removals.{RemovedSoFar}
 use Rattle.pool_state.proofs.cleaning.remove_files.Given as goal
 

@@ -1,4 +1,4 @@
-use Rattle.pool_survey.specs.Looking.{HaveLooked}
+use Rattle.disk_model.specs.Looking.{HaveLooked}
 use Rattle.pool_survey.specs.Regions.{in_rows_before}
 use Rattle.pool_survey.proofs.Regions.{Surveyed}
 use Rattle.pool_survey.proofs.surveying.survey_finalised.Given as goal
@@ -6,5 +6,5 @@ use Rattle.pool_survey.proofs.surveying.survey_finalised.Given as goal
 abbrev pub invariant-loop-d1 : goal.invariant-loop-d1
 invariant-loop-d1 g l = record {
   surveyed : Surveyed (in_rows_before l.d1) (g.D.PoolDisks.worlds l.disks) l.vol l.fn.blocks l.blocks;
-  looked : HaveLooked g.D.PoolDisks.worlds g.D.PoolDisks.moment g.D.PoolDisks.left_since g.D.PoolDisks.faults g.D.PoolDisks.absences g.D.PoolDisks.next_number g.D.PoolDisks.volume_count l.fn.disks l.disks;
+  looked : HaveLooked g.D.PoolDisks l.fn.disks l.disks;
 }

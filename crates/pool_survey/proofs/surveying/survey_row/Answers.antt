@@ -1,7 +1,7 @@
 use Rattle.std.proofs.Common.{◌≡◌, sym, ◌∙◌, subst}
 use Rattle.disk_model.specs.Worlds.{IsListing}
 use Rattle.disk_model.specs.Told.{InEachWorld}
-use Rattle.pool_survey.specs.Looking.{TellOne}
+use Rattle.disk_model.specs.Looking.{TellOne}
 use Rattle.pool_survey.proofs.Told.{stays, answered, looked_on}
 use Rattle.pool_survey.proofs.Regions.{next_directory}
 use Rattle.pool_survey.proofs.surveying.survey_row.Goals as goal

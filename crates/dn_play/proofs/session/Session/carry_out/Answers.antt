@@ -1,7 +1,7 @@
 use Rattle.std.proofs.Common.{subst}
 use Rattle.map_model.specs.Steps.{push, write}
 use Rattle.dn_play.specs.Commands.{CommandStep}
-use Rattle.dn_play.specs.Standing.{faulty_of, mark_of}
+use Rattle.disk_model.specs.Marks.{faulty_of, mark_of}
 use Rattle.dn_play.proofs.Stepped.{carried}
 use Rattle.dn_play.proofs.session.Session.carry_out.Goals as goal
 

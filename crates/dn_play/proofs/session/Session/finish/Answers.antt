@@ -9,7 +9,8 @@ use Rattle.dn_play.specs.Commands.{FailsBy}
 use Rattle.pool_state.specs.Stands.{PoolStands}
 use Rattle.pool_state.proofs.Belonging.{stands_sealed}
 use Rattle.pool_state.proofs.Starting.{with_cell-same}
-use Rattle.dn_play.specs.Standing.{NotGrowing, OpenWriter, faulty_of, mark_of}
+use Rattle.disk_model.specs.Marks.{faulty_of, mark_of}
+use Rattle.dn_play.specs.Standing.{NotGrowing, OpenWriter}
 use Rattle.dn_play.proofs.Stepping.{loose, at_block, crash_takes, crash_same, crash_only, goes_on, stays_on, carried_same, carried_learning, carried_on, seen_same, seen_some, put_back, took, writer_of_block, no_writer_of_block}
 use Rattle.map_model.specs.Sound.{matching, exactly, with_meta}
 use Rattle.pool_state.specs.Writers.{meta_of}

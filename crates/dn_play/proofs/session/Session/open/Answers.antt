@@ -1,9 +1,10 @@
 use Rattle.std.proofs.Common.{◌≡◌, ◌-◌, ℕ, inl, inr, [], None, Err, refl, sym, ◌∙◌, ap, subst, arith, if◌then◌else◌, ◌==◌}
 use Rattle.std.specs.Prelude.{MatchOption}
 use Rattle.disk_model.specs.Worlds.{DraftPlace}
+use Rattle.disk_model.specs.Marks.{GivenBetween}
 use Rattle.map_model.specs.Cells.{growing}
 use Rattle.map_model.specs.Steps.{done, memory}
-use Rattle.pool_state.specs.Answers.{start_fault, GivenBetween}
+use Rattle.pool_state.specs.Answers.{start_fault}
 use Rattle.pair_draft.specs.Writers.{writer_of}
 use Rattle.dn_play.specs.State.{Numbers}
 use Rattle.dn_play.specs.Standing.{NotGrowing, OpenWriter}

@@ -1,6 +1,7 @@
 use Rattle.std.proofs.Common.{◌≡◌, ◌-◌, inl, inr, Err, length, refl, sym, ◌∙◌, ap, subst, arith}
 use Rattle.std.specs.Prelude.{MatchOption}
 use Rattle.disk_model.specs.Worlds.{DraftPlace}
+use Rattle.disk_model.specs.Marks.{faulty_of, mark_of}
 use Rattle.map_model.specs.Steps.{Step, write}
 use Rattle.pair_draft.specs.Writers.{writer_of}
 use Rattle.pool_state.specs.Answers.{unlimited, start_fault}
@@ -10,7 +11,7 @@ use Rattle.client_ops.specs.Writing.{op_writer, fill_fault, op_answer, FillStand
 use Rattle.client_ops.proofs.Ending.{ends_as_write}
 use Rattle.dn_play.specs.Commands.{FailsBy}
 use Rattle.dn_play.specs.State.{Numbers}
-use Rattle.dn_play.specs.Standing.{NotGrowing, OpenWriter, faulty_of, mark_of}
+use Rattle.dn_play.specs.Standing.{NotGrowing, OpenWriter}
 use Rattle.dn_play.proofs.Stepping.{loose, with_cell-here, crash_takes, crash_same, goes_on, none_open, carried_same, carried_learning, carried_on, made_number}
 use Rattle.dn_play.proofs.Stepped.{says_fault, is_failed, is_memory, write_learns_nothing, write_refused, write_unstarted, faulty_writer, has_meta, write_begins_nothing}
 use Rattle.dn_play.proofs.Composing.{safe_then, grows_started, grows_pushed, ended_stands, ended_safe}

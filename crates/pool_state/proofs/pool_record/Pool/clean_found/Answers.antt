@@ -1,4 +1,5 @@
 use Rattle.std.proofs.Common.{◌∙◌, arith}
+use Rattle.disk_model.proofs.GoingOn.{went_then}
 use Rattle.pool_state.proofs.QuietRemovals.{both_quiet}
 use Rattle.pool_state.proofs.pool_record.Pool.clean_found.Goals as goal
 
@@ -17,14 +18,5 @@ loop-preserved g c = record {
       both_quiet was (c.clean_one.ensures.quiet cells (was.stands _ stands));
   fewer = omega (arith, c.loop.invariant.fewer, c.in_ok-clean_one.ensures.fewer);
   entries = λ other. c.clean_one.ensures.entries other ∙ c.loop.invariant.entries other;
-  goes_on =
-      let was = c.loop.invariant.goes_on in
-      let now = c.clean_one.ensures.goes_on in
-      record {
-        honest = (λ told. now.honest.0 (was.honest.0 told), λ told. was.honest.1 (now.honest.1 told));
-        faults = omega (arith, was.faults, now.faults);
-        next_number = omega (arith, was.next_number, now.next_number);
-        moment = omega (arith, was.moment, now.moment);
-        volume_count = now.volume_count ∙ was.volume_count;
-      };
+  goes_on = went_then _ _ _ _ c.loop.invariant.goes_on c.clean_one.ensures.goes_on;
 }

@@ -1,7 +1,8 @@
 use Rattle.std.specs.Prelude.{◌≡◌, ◌+◌, ◌≤◌, ℕ, false, length}
 use Rattle.map_model.specs.Cells.{Cells}
 use Rattle.pool_state.specs.Books.{entry_at}
-use Rattle.pool_state.specs.Stands.{Stands, StandsForSome, GoesOn}
+use Rattle.disk_model.specs.Marks.{GoesOn}
+use Rattle.pool_state.specs.Stands.{Stands, StandsForSome}
 use Rattle.pool_state.specs.Tenures.{Rests}
 use Rattle.pool_state.proofs.pool_record.Pool.clean_found.Given as goal
 
