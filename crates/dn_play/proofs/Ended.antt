@@ -19,7 +19,7 @@ use Rattle.map_model.specs.Sound.{Metas, Knowledge, matching, exactly, with_meta
 use Rattle.client_ops.specs.Writing.{op_answer, EndLeaves, EndLearns}
 use Rattle.script_lang.specs.declared.reply.Reply.{Reply}
 use Rattle.dn_play.specs.State.{Numbers}
-use Rattle.dn_play.specs.Commands.{Trust, Says, LearnsOf, LearnsBy, MetasAfter, DisksFailed, FailsBy}
+use Rattle.dn_play.specs.Commands.{Trust, Says, IsContent, LearnsOf, LearnsBy, MetasAfter, DisksFailed, FailsBy}
 use Rattle.dn_play.specs.Replies.{end_reply}
 use Rattle.dn_play.specs.Standing.{NotGrowing}
 use Rattle.dn_play.proofs.Stepping.{at_block_steps}
@@ -39,6 +39,11 @@ pub says_end : (trust : Trust) {metas : ℕ → List ℕ} (reply : OpReply) (sai
 says_end trust EndsOk said is = is
 says_end trust EndsFailed said is = is
 says_end trust EndsMemory said is = is
+
+pub end_gives_nothing : (reply : OpReply) → IsContent (op_answer reply) → ⊥
+end_gives_nothing EndsOk gives = gives
+end_gives_nothing EndsFailed gives = gives
+end_gives_nothing EndsMemory gives = gives
 
 pub ends_failed : (reply : OpReply) → op_answer reply ≡ failed → reply ≡ EndsFailed
 ends_failed EndsOk same = absurd cc

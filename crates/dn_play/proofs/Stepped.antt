@@ -28,7 +28,7 @@ use Rattle.disk_model.specs.Files.{Files}
 use Rattle.disk_model.specs.Marks.{GivenBetween, Mark}
 use Rattle.dn_play.specs.Lines.{Does}
 use Rattle.dn_play.specs.Images.{CrashSafe}
-use Rattle.dn_play.specs.Commands.{Trust, any_disks, telling_disks, sound_disks, Says, Gives, LearnsBy, MetasAfter, begins_writer}
+use Rattle.dn_play.specs.Commands.{Trust, any_disks, telling_disks, sound_disks, Says, Gives, IsContent, LearnsBy, MetasAfter, begins_writer}
 use Rattle.dn_play.specs.Replies.{refusal_reply, deletion_reply, read_reply}
 use Rattle.dn_play.specs.Standing.{NotGrowing, IsKnown, LineCarried}
 
@@ -44,6 +44,21 @@ says_refusal trust metas NoMemory = refl
 
 pub says_fault : (trust : Trust) {metas : ℕ → List ℕ} (fault : StartFault) (reply : Reply) → reply ≡ refusal_reply fault → Says trust metas (start_fault fault) reply
 says_fault trust {metas} fault reply is = subst (Says trust metas (start_fault fault)) (sym is) (says_refusal trust metas fault)
+
+-- and gives no replica
+pub start_gives_nothing : (fault : StartFault) → IsContent (start_fault fault) → ⊥
+start_gives_nothing WasThere gives = gives
+start_gives_nothing WasAbsent gives = gives
+start_gives_nothing WasWriting gives = gives
+start_gives_nothing WasWaiting gives = gives
+start_gives_nothing WasUnsure gives = gives
+start_gives_nothing HasFailed gives = gives
+start_gives_nothing NoMemory gives = gives
+
+pub delete_gives_nothing : (fault : DeleteFault) → IsContent (delete_fault fault) → ⊥
+delete_gives_nothing NotThere gives = gives
+delete_gives_nothing IsWrittenNow gives = gives
+delete_gives_nothing RemovalFailed gives = gives
 
 pub is_failed : (fault : StartFault) → start_fault fault ≡ failed → fault ≡ HasFailed
 is_failed WasThere is = absurd cc

@@ -18,7 +18,8 @@ use Rattle.pool_state.specs.Writers.{WriterStands}
 use Rattle.pool_state.proofs.Belonging.{stands_elsewhere}
 use Rattle.script_lang.specs.declared.reply.Reply.{Reply}
 use Rattle.dn_play.specs.State.{Numbers, RunState}
-use Rattle.dn_play.specs.Commands.{Trust, Says, FailsBy, begins_writer, MetasAfter, given}
+use Rattle.dn_play.specs.Commands.{Trust, Says, FailsBy, begins_writer, IsContent, MetasAfter, given}
+use Rattle.pool_state.specs.Readers.{LooksForTwo}
 use Rattle.map_model.specs.Sound.{Metas, Knowledge, nothing, matching, exactly}
 use Rattle.pool_state.proofs.Changing.{stands_for_less}
 use Rattle.dn_play.specs.Standing.{NotGrowing, OpenWriter, Standing, IsKnown, CarriesOut}
@@ -231,9 +232,9 @@ module _ {Faulty : ℕ → ℕ → Type 0} {told : Option (List World)} {old : R
   -- a command that leaves the state as it was
   pub carried_same : StandsFor old → CrashSafe old.cells old.cells Sound SoundNow past since → (answer : Answer) → ((trust : Trust) → IsKnown (Sound old.cells) trust told → Says trust (old.metas id) answer reply) →
       Step unlimited (old.cells id) command answer (old.cells id) → (answer ≡ failed → FailsBy Faulty before after (old.writers id) (old.cells id) command (old.cells id)) →
-      (answer ≡ memory → old.cells id ≡ waiting → before.next_number < after.next_number) → begins_writer command answer ≡ false → MetasAfter command answer old.metas id (old.cells id) old.metas →
+      (answer ≡ memory → old.cells id ≡ waiting → before.next_number < after.next_number) → begins_writer command answer ≡ false → MetasAfter command answer old.metas id (old.cells id) old.metas → (IsContent answer → LooksForTwo before after) →
       CarriesOut Faulty told old before id command reply after StandsFor Sound SoundNow past since
-  carried_same stands crash answer says step fault lack begins metas = record {
+  carried_same stands crash answer says step fault lack begins metas looked = record {
     new = old;
     stands = stands;
     step = λ trust known. record {
@@ -242,6 +243,7 @@ module _ {Faulty : ℕ → ℕ → Type 0} {told : Option (List World)} {old : R
       cells = record { own = step; others = λ other apart. refl };
       fault = fault;
       lack = lack;
+      looked = looked;
       metas = metas;
       writers = λ other. begins_none (begins_writer command answer) id other (given before after) (old.writers other) begins;
     };
@@ -252,9 +254,9 @@ module _ {Faulty : ℕ → ℕ → Type 0} {told : Option (List World)} {old : R
   pub carried : (cell : Cell) (metas : Metas) (numbers : ℕ → Numbers) → StandsFor (record { cells = with_cell old.cells id cell; metas = metas; writers = numbers }) →
       CrashSafe old.cells (with_cell old.cells id cell) Sound SoundNow past since → (answer : Answer) → ((trust : Trust) → IsKnown (Sound old.cells) trust told → Says trust (old.metas id) answer reply) → Step unlimited (old.cells id) command answer cell →
       (answer ≡ failed → FailsBy Faulty before after (old.writers id) (old.cells id) command cell) → (answer ≡ memory → cell ≡ waiting → before.next_number < after.next_number) →
-      ((other : ℕ) → numbers other ≡ (if begins_writer command answer && other == id then given before after else old.writers other)) → MetasAfter command answer old.metas id cell metas →
+      ((other : ℕ) → numbers other ≡ (if begins_writer command answer && other == id then given before after else old.writers other)) → MetasAfter command answer old.metas id cell metas → (IsContent answer → LooksForTwo before after) →
       CarriesOut Faulty told old before id command reply after StandsFor Sound SoundNow past since
-  carried cell metas numbers stands crash answer says step fault lack begins learns = record {
+  carried cell metas numbers stands crash answer says step fault lack begins learns looked = record {
     new = record { cells = with_cell old.cells id cell; metas = metas; writers = numbers };
     stands = stands;
     step = λ trust known. record {
@@ -266,6 +268,7 @@ module _ {Faulty : ℕ → ℕ → Type 0} {told : Option (List World)} {old : R
       };
       fault = λ is. subst (FailsBy Faulty before after (old.writers id) (old.cells id) command) (sym (with_cell-here old.cells id cell)) (fault is);
       lack = λ is waits. lack is (sym (with_cell-here old.cells id cell) ∙ waits);
+      looked = looked;
       metas = subst (λ c. MetasAfter command answer old.metas id c metas) (sym (with_cell-here old.cells id cell)) learns;
       writers = begins;
     };
@@ -276,14 +279,14 @@ module _ {Faulty : ℕ → ℕ → Type 0} {told : Option (List World)} {old : R
   pub carried_learning : (cell : Cell) (metas : Metas) → StandsFor (record { cells = with_cell old.cells id cell; metas = metas; writers = old.writers }) →
       CrashSafe old.cells (with_cell old.cells id cell) Sound SoundNow past since → (answer : Answer) → ((trust : Trust) → IsKnown (Sound old.cells) trust told → Says trust (old.metas id) answer reply) → Step unlimited (old.cells id) command answer cell →
       (answer ≡ failed → FailsBy Faulty before after (old.writers id) (old.cells id) command cell) → (answer ≡ memory → cell ≡ waiting → before.next_number < after.next_number) →
-      begins_writer command answer ≡ false → MetasAfter command answer old.metas id cell metas → CarriesOut Faulty told old before id command reply after StandsFor Sound SoundNow past since
-  carried_learning cell metas stands crash answer says step fault lack begins learns =
+      begins_writer command answer ≡ false → MetasAfter command answer old.metas id cell metas → (IsContent answer → LooksForTwo before after) → CarriesOut Faulty told old before id command reply after StandsFor Sound SoundNow past since
+  carried_learning cell metas stands crash answer says step fault lack begins learns looked =
       carried cell metas old.writers stands crash answer says step fault lack
-      (λ other. begins_none (begins_writer command answer) id other (given before after) (old.writers other) begins) learns
+      (λ other. begins_none (begins_writer command answer) id other (given before after) (old.writers other) begins) learns looked
 
   -- a command that begins no writer
   pub carried_on : (cell : Cell) → StandsFor (record { cells = with_cell old.cells id cell; metas = old.metas; writers = old.writers }) →
       CrashSafe old.cells (with_cell old.cells id cell) Sound SoundNow past since → (answer : Answer) → ((trust : Trust) → IsKnown (Sound old.cells) trust told → Says trust (old.metas id) answer reply) → Step unlimited (old.cells id) command answer cell →
       (answer ≡ failed → FailsBy Faulty before after (old.writers id) (old.cells id) command cell) → (answer ≡ memory → cell ≡ waiting → before.next_number < after.next_number) →
-      begins_writer command answer ≡ false → MetasAfter command answer old.metas id cell old.metas → CarriesOut Faulty told old before id command reply after StandsFor Sound SoundNow past since
+      begins_writer command answer ≡ false → MetasAfter command answer old.metas id cell old.metas → (IsContent answer → LooksForTwo before after) → CarriesOut Faulty told old before id command reply after StandsFor Sound SoundNow past since
   carried_on cell = carried_learning cell old.metas

@@ -1,5 +1,5 @@
 -- One command on a block: its reply, the cell after it, and the cause of a failure.
-use Rattle.std.specs.Prelude.{ℕ, ◌≡◌, ◌<◌, ◌⊎◌, ◌==◌, ◌&&◌, Bool, true, false, if◌then◌else◌, List, length, Some}
+use Rattle.std.specs.Prelude.{ℕ, ◌≡◌, ◌<◌, ◌⊎◌, ◌==◌, ◌&&◌, Bool, true, false, if◌then◌else◌, List, length, Some, ⊤}
 use Rattle.disk_model.specs.Causes.{Rose}
 use Rattle.disk_model.specs.Marks.{Mark}
 use Rattle.script_lang.specs.declared.reply.Reply.{Reply}
@@ -12,6 +12,7 @@ use Rattle.meta_file.specs.declared.verdict.Verdict.{Verdict}
 use Rattle.meta_file.specs.Verdicts.{verdict_of}
 use Rattle.pair_draft.specs.Checking.{IsOnLength}
 use Rattle.pool_state.specs.Answers.{unlimited}
+use Rattle.pool_state.specs.Readers.{LooksForTwo}
 use Rattle.dn_play.specs.Replies.{read_reply}
 use Rattle.dn_play.specs.State.{Numbers, RunState}
 
@@ -79,6 +80,11 @@ abbrev pub begins_writer : Command → Answer → Bool
 begins_writer (start_write stamp need) done = true
 begins_writer command answer = false
 
+-- the answer gives a replica, or the verdict on it
+abbrev pub IsContent : Answer → Type 0
+IsContent (content replica) = ⊤
+IsContent answer = ⊥
+
 -- the meta file of this replica is one that matches it, and no other is another one
 pub record LearnsOf (old : Metas) (id : ℕ) (replica : Replica) (new : Metas) : Type 0 where
   pub meta : List ℕ
@@ -104,7 +110,7 @@ abbrev pub given : Mark → Mark → Numbers
 given before after = record { first = before.next_number; last = after.next_number }
 
 -- One command on a block: the reply says the answer of a step of the cells, a failure has its cause, want of memory leaves
--- files only where a draft's number was given, only the end of a write changes a meta file, and only a command that begins a writer
+-- files only where a draft's number was given, what is given of a replica was looked for in this command, only the end of a write changes a meta file, and only a command that begins a writer
 -- what is known of the writers.
 pub record CommandStep (trust : Trust) (Faulty : ℕ → ℕ → Type 0) (old : RunState) (before : Mark) (id : ℕ) (command : Command) (reply : Reply) (new : RunState) (after : Mark) : Type 0 where
   pub answer : Answer
@@ -112,5 +118,6 @@ pub record CommandStep (trust : Trust) (Faulty : ℕ → ℕ → Type 0) (old : 
   pub cells : CellsStep old.cells (record { id = id; room = unlimited; command = command; reply = answer }) new.cells
   pub fault : answer ≡ failed → FailsBy Faulty before after (old.writers id) (old.cells id) command (new.cells id)
   pub lack : answer ≡ memory → new.cells id ≡ waiting → before.next_number < after.next_number
+  pub looked : IsContent answer → LooksForTwo before after
   pub metas : MetasAfter command answer old.metas id (new.cells id) new.metas
   pub writers : (other : ℕ) → new.writers other ≡ (if begins_writer command answer && other == id then given before after else old.writers other)

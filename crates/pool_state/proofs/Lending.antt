@@ -21,7 +21,9 @@ use Rattle.map_model.proofs.LawProofs.{stands_allows}
 use Rattle.map_model.proofs.Soundness.{stands_is_sound}
 use Rattle.pool_state.proofs.Whole.{leaves_whole}
 use Rattle.pool_state.proofs.Showing.{Quiet}
-use Rattle.pool_state.specs.Readers.{reader_bytes, IsMetaOf, Lends, file_of}
+use Rattle.disk_model.specs.Causes.{Rose}
+use Rattle.disk_model.specs.Marks.{Mark, IsLater, GivenBetween}
+use Rattle.pool_state.specs.Readers.{reader_bytes, IsMetaOf, Lends, file_of, LooksForTwo}
 
 -- a call that only looks leaves what stands
 pub stands_looked : (told told' : Option (List World)) (volumes volumes' : ℕ) (entries : ℕ → Option Entry) (found : ℕ → List Leftover) (known : Knowledge) (cells : Cells) →
@@ -131,3 +133,12 @@ lends {told' = told'} {told'' = told''} {cells = cells} stands stands' id valid 
       bytes_are = lent_bytes stands id valid e has told' bytes lent cell.0 cell.1 first;
       meta_is = λ tells. lent_meta stands' id valid e has told'' bytes lent' cell.0 cell.1 cell.2 second limit (first.honest.0 tells);
     }
+
+-- two files that were looked for, one after the other
+pub looked_for_two : {R : Type 0} (number : R → ℕ) (first mid last : Mark) → IsLater first mid → IsLater mid last → (lent lent' : Option R) →
+    IfNone lent (Rose first.absences mid.absences) → IfSome lent (λ reader. GivenBetween first.next_number mid.next_number (number reader)) →
+    IfNone lent' (Rose mid.absences last.absences) → IfSome lent' (λ reader. GivenBetween mid.next_number last.next_number (number reader)) → LooksForTwo first last
+looked_for_two number first mid last one two None lent' absent given absent' given' = inl (omega (arith, absent, two.absences))
+looked_for_two number first mid last one two (Some block) None absent given absent' given' = inl (omega (arith, absent', one.absences))
+looked_for_two number first mid last one two (Some block) (Some meta) absent given absent' given' =
+    inr (omega (arith, given.since, given.before, given'.since, given'.before))

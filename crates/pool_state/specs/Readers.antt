@@ -1,10 +1,17 @@
 -- What the readers of a pair that was lent give.
-use Rattle.std.specs.Prelude.{ℕ, ◌≡◌, ◌<◌, ◌^◌, ◌⊎◌, List, [], length, Option, Some, None, IsSome, IsSomeAnd}
+use Rattle.std.specs.Prelude.{ℕ, ◌≡◌, ◌+◌, ◌<◌, ◌≤◌, ◌^◌, ◌⊎◌, List, [], length, Option, Some, None, IsSome, IsSomeAnd}
+use Rattle.disk_model.specs.declared.disks.PoolDisks.{Ghosts}
+use Rattle.disk_model.specs.declared.disks.Draft as drafts
+use Rattle.disk_model.specs.declared.disks.SealedDraft as sealed
+use Rattle.disk_model.specs.declared.disks.Reader as readers
+use Rattle.disk_model.specs.Causes.{Rose}
+use Rattle.disk_model.specs.Marks.{Mark, mark_of}
 use Rattle.disk_model.specs.Worlds.{World}
 use Rattle.disk_model.specs.Told.{InEachWorld}
 use Rattle.map_model.specs.Cells.{Replica, Cell, final}
 use Rattle.map_model.specs.Slots.{block, meta, path_of}
 use Rattle.map_model.specs.Sound.{Knowledge, Fits}
+use Rattle.pool_state.specs.declared.pool_record.Pool.{Pool}
 use Rattle.pool_state.specs.declared.read_pair.ReadPair.{ReadPair}
 
 -- the bytes that an optional reader gives, where it tells them; none is read as a file without bytes
@@ -62,3 +69,12 @@ IsFaulty number_of faults_of file = IsSomeAnd file (λ reader. FaultyReader numb
 -- one of the pair's files has a reader, and some reader of its number failed
 abbrev pub FailedToRead : {D S T R : Type 0} → (R → ℕ) → (R → ℕ) → ReadPair D S T R → Type 0
 FailedToRead number_of faults_of pair = IsFaulty number_of faults_of pair.block ⊎ IsFaulty number_of faults_of pair.meta
+
+-- two files were looked for: both were lent, so that two numbers were given, or one was absent
+abbrev pub LooksForTwo : Mark → Mark → Type 0
+LooksForTwo before after = Rose before.absences after.absences ⊎ (before.next_number + 2 ≤ after.next_number)
+
+module _ {D S T R : Type 0} {g : Ghosts D S T R} {d : drafts.Ghosts T S} {s : sealed.Ghosts S} {r : readers.Ghosts R} where
+  -- between the two pools a block's file and its meta file were looked for
+  abbrev pub LooksForPair : (old new : Pool D S T R g d s r) → Type 0
+  LooksForPair old new = LooksForTwo (mark_of g old.disks) (mark_of g new.disks)

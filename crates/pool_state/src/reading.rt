@@ -1,5 +1,5 @@
 //! The start of a read: readers of a replica's two files.
-ghost use Rattle.std.specs.Prelude.{◌≡◌, ◌⊎◌, ◌≤◌, ◌<◌, ◌^◌, ℕ, List, length, Some, IfOk, IfErr, IfSome, IsErrOf};
+ghost use Rattle.std.specs.Prelude.{◌≡◌, ◌⊎◌, ◌≤◌, ◌<◌, ◌^◌, ℕ, List, length, Some, IfOk, IfErr, IfSome, IfNone, IsOk, IsErrOf};
 ghost use Rattle.disk_model.specs.Causes.{Rose};
 ghost use Rattle.disk_model.specs.Moments.{AddsOnly};
 ghost use Rattle.disk_model.specs.Told.{NoDraftAt, CanLeave, PicksOne, StandsBeforeOrAfter};
@@ -12,7 +12,7 @@ ghost use Rattle.pool_state.specs.Answers.{unlimited, start_fault, read_fault};
 ghost use Rattle.pool_state.specs.Books.{entry_at, file_is};
 ghost use Rattle.pool_state.specs.Tenures.{Rests};
 ghost use Rattle.pool_state.specs.Stands.{Stands, StandsForSome};
-ghost use Rattle.pool_state.specs.Readers.{reader_bytes, block_bytes, meta_bytes, file_of, Lends, AreFiles};
+ghost use Rattle.pool_state.specs.Readers.{reader_bytes, block_bytes, meta_bytes, file_of, Lends, AreFiles, LooksForPair};
 
 use crate::entry::State;
 use crate::leftover::BlockFile;
@@ -43,6 +43,7 @@ fn lend_file<D: PoolDisks>(
     ensures images { AddsOnly (D.left_since disks.old) (D.left_since disks.new) (CanLeave (D.worlds disks.new)) }
     ensures number { IfOk result (λ lent. IfSome lent (λ reader.
         GivenBetween (D.next_number disks.old) (D.next_number disks.new) (D.Reader.number reader))) }
+    ensures absent { IfOk result (λ lent. IfNone lent (Rose (D.absences disks.old) (D.absences disks.new))) }
     ensures goes_on { GoesOn D.PoolDisks disks.old disks.new }
     ensures fault { IfErr result (λ fault. (fault ≡ StartFault.Failed) ⊎ (fault ≡ StartFault.Memory)) }
     ensures failed { IsErrOf result StartFault.Failed → Rose (D.faults disks.old) (D.faults disks.new) }
@@ -75,6 +76,7 @@ impl<D: PoolDisks> Pool<D> {
         ensures meta_number { IfOk result (λ pair. IfSome pair.meta (λ reader.
             GivenBetween (D.next_number self.old.disks) (D.next_number self.new.disks) (D.Reader.number reader))) }
         ensures goes_on { GoesOn D.PoolDisks self.old.disks self.new.disks }
+        ensures looked { IsOk result → LooksForPair self.old self.new }
         ensures failed { IsErrOf result StartFault.Failed → Rose (D.faults self.old.disks) (D.faults self.new.disks) }
     {
         let Some(entry) = self.map.find(id) else {

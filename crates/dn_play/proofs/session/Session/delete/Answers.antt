@@ -5,7 +5,7 @@ use Rattle.pool_state.specs.Answers.{delete_fault}
 use Rattle.pool_state.specs.Books.{entry_at}
 use Rattle.dn_play.specs.Standing.{NotGrowing, OpenWriter}
 use Rattle.dn_play.proofs.Stepping.{loose, crash_takes, crash_same, goes_on, none_open, carried_same, carried_on}
-use Rattle.dn_play.proofs.Stepped.{deletable, says_delete, delete_not_failed, delete_not_memory, only_failure, deleted_rests}
+use Rattle.dn_play.proofs.Stepped.{delete_gives_nothing, deletable, says_delete, delete_not_failed, delete_not_memory, only_failure, deleted_rests}
 use Rattle.dn_play.proofs.session.Session.delete.Goals as goal
 
 pub returns-in-Some-clause-step : goal.returns-in-Some-clause-step
@@ -13,7 +13,7 @@ returns-in-Some-clause-step g c state standing =
     let fault = c.in-Some.fault in
     carried_same standing (crash_same _ _ _) (delete_fault fault) (λ trust known. says_delete trust fault _ c.delete_refusal_of.ensures)
     (c.in-Some.ensures.refused state.cells (loose standing))
-    (λ e. absurd (delete_not_failed fault c.in-Some.ensures.not_failed e)) (λ e w. absurd (delete_not_memory fault e)) refl refl
+    (λ e. absurd (delete_not_failed fault c.in-Some.ensures.not_failed e)) (λ e w. absurd (delete_not_memory fault e)) refl refl (λ no. absurd (delete_gives_nothing fault no))
 
 pub returns-in-Ok-clause-step : goal.returns-in-Ok-clause-step
 returns-in-Ok-clause-step g c state standing =
@@ -25,7 +25,7 @@ returns-in-Ok-clause-step g c state standing =
     (goes_on standing id t.to.cell state.writers (t.to.stands _ standing.pool) c.delete.ensures.goes_on.honest.1 c.delete.ensures.others (λ other apart. refl) (λ other apart. refl)
     (subst (λ o. MatchOption o (NotGrowing t.to.cell) (OpenWriter (g.D.PoolDisks.worlds c.delete.new.self.disks) (entry_at c.delete.new.self.map) id t.to.cell (state.writers id))) (sym none)
     (subst NotGrowing (sym (t.to.says.1 refl)) tt)))
-    (crash_takes t) done (λ trust known. refl) t.to.step (λ e. absurd cc) (λ e w. absurd cc) refl refl
+    (crash_takes t) done (λ trust known. refl) t.to.step (λ e. absurd cc) (λ e w. absurd cc) refl refl (λ no. absurd no)
 
 pub returns-in-Err-clause-step : goal.returns-in-Err-clause-step
 returns-in-Err-clause-step g c state standing =
@@ -41,4 +41,4 @@ returns-in-Err-clause-step g c state standing =
     (subst (λ o. MatchOption o (NotGrowing t.to.cell) (OpenWriter (g.D.PoolDisks.worlds c.delete.new.self.disks) (entry_at c.delete.new.self.map) id t.to.cell (state.writers id))) (sym none)
     (subst NotGrowing (sym left) (deleted_rests (state.cells id) free))))
     (crash_takes t) (delete_fault fault) (λ trust known. says_delete trust fault _ c.delete_refusal_of-in-Err.ensures) t.to.step
-    (λ e. (c.in-Err.ensures.failed (ap Err is), left)) (λ e w. absurd (delete_not_memory fault e)) refl refl
+    (λ e. (c.in-Err.ensures.failed (ap Err is), left)) (λ e w. absurd (delete_not_memory fault e)) refl refl (λ no. absurd (delete_gives_nothing fault no))

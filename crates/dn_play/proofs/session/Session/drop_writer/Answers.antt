@@ -17,7 +17,7 @@ returns-in_default-clause-step g c state standing =
     let absent = sym c.in_default.ensures.found in
     let same = stays_on standing standing.pool (λ t. t) (λ other. refl) (seen_same f _ _ (same_entries id _ _ absent c.in_default.ensures.taken)) in
     carried_same same (crash_same _ _ _) no_writer (λ trust known. refl)
-    (no_drop (state.cells id) (no_writer_of_block _ _ _ (ap (option_map f) absent) (standing.writer id c.remove.ensures.valid))) (λ e. absurd cc) (λ e w. absurd cc) refl refl
+    (no_drop (state.cells id) (no_writer_of_block _ _ _ (ap (option_map f) absent) (standing.writer id c.remove.ensures.valid))) (λ e. absurd cc) (λ e w. absurd cc) refl refl (λ no. absurd no)
 
 pub drop_write-requires-clause-belongs : goal.drop_write-requires-clause-belongs
 drop_write-requires-clause-belongs g c =
@@ -39,7 +39,7 @@ returns-in-Ok-clause-step g c state standing =
     (goes_on standing id t.to.cell state.writers (t.to.stands _ standing.pool) c.in-Ok.ensures.goes_on.honest.1 (λ other apart. c.in-Ok.ensures.others other (λ e. apart (e ∙ at.of))) seen.0 (λ other apart. refl)
     (subst (λ o. MatchOption o (NotGrowing t.to.cell) (OpenWriter (g.D.PoolDisks.worlds c.drop_write.new.self.disks) (entry_at c.drop_write.new.self.map) id t.to.cell (state.writers id))) (sym seen.1)
     (subst NotGrowing (sym (t.to.says.1 refl)) tt)))
-    (crash_takes t) done (λ trust known. refl) t.to.step (λ e. absurd cc) (λ e x. absurd cc) refl refl
+    (crash_takes t) done (λ trust known. refl) t.to.step (λ e. absurd cc) (λ e x. absurd cc) refl refl (λ no. absurd no)
 
 pub returns-in-Err-clause-step : goal.returns-in-Err-clause-step
 returns-in-Err-clause-step g c state standing =
@@ -54,4 +54,4 @@ returns-in-Err-clause-step g c state standing =
     (goes_on standing id t.to.cell state.writers (t.to.stands _ standing.pool) c.in-Err.ensures.goes_on.honest.1 (λ other apart. c.in-Err.ensures.others other (λ e. apart (e ∙ at.of))) seen.0 (λ other apart. refl)
     (subst (λ o. MatchOption o (NotGrowing t.to.cell) (OpenWriter (g.D.PoolDisks.worlds c.drop_write.new.self.disks) (entry_at c.drop_write.new.self.map) id t.to.cell (state.writers id))) (sym seen.1)
     (subst NotGrowing (sym (t.to.says.0 refl)) tt)))
-    (crash_takes t) failed (λ trust known. refl) t.to.step (λ e. c.in-Err.ensures.failed refl) (λ e x. absurd cc) refl refl
+    (crash_takes t) failed (λ trust known. refl) t.to.step (λ e. c.in-Err.ensures.failed refl) (λ e x. absurd cc) refl refl (λ no. absurd no)

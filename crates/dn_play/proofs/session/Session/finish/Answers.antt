@@ -25,13 +25,13 @@ returns-in-Err-clause-step g c state standing =
     elim c.in-Err.ensures.refused [
       | inl absent ↦
           carried_same same (crash_same _ _ _) no_writer (λ trust known. absent.0)
-          (no_finish (state.cells id) (no_writer_of_block _ _ _ (ap (option_map f) absent.1) (standing.writer id c.take.ensures.valid))) (λ e. absurd cc) (λ e w. absurd cc) refl refl
+          (no_finish (state.cells id) (no_writer_of_block _ _ _ (ap (option_map f) absent.1) (standing.writer id c.take.ensures.valid))) (λ e. absurd cc) (λ e w. absurd cc) refl refl (λ no. absurd no)
       | inr wanting ↦
           let some = seen_some _ wanting.1 in
           let at = writer_of_block _ _ _ (f some.0) (ap (option_map f) some.1) (standing.writer id c.take.ensures.valid) in
           carried_same same (crash_same _ _ _) memory (λ trust known. wanting.0)
           (subst (λ x. Step unlimited x finish memory x) (sym at.grows) (memory_finish some.0.stamp (some.0.reserved - some.0.len) at.bytes))
-          (λ e. absurd cc) (λ e w. absurd (grows_not (state.cells id) some.0.stamp at.bytes (some.0.reserved - some.0.len) at.grows w)) refl refl
+          (λ e. absurd cc) (λ e w. absurd (grows_not (state.cells id) some.0.stamp at.bytes (some.0.reserved - some.0.len) at.grows w)) refl refl (λ no. absurd no)
     ]
 
 pub seal-requires : goal.seal-requires
@@ -69,7 +69,7 @@ returns-in-Ok-finish-clause-step g c state standing =
     (subst (λ o. MatchOption o (NotGrowing t.to.cell) (OpenWriter (g.D.PoolDisks.worlds c.finish.new.self.disks) (entry_at c.finish.new.self.map) id t.to.cell (state.writers id))) (sym seen.1)
     (subst NotGrowing (sym (t.to.says.1 refl)) tt)))
     (crash_takes t) done (λ trust known. refl) t.to.step (λ e. absurd cc) (λ e x. absurd cc) refl
-    (learns_final state.metas id pair.id pair.stamp at.bytes (meta_of belongs) key belongs.sealed.of_bytes.matches t.to.cell (t.to.says.1 refl))
+    (learns_final state.metas id pair.id pair.stamp at.bytes (meta_of belongs) key belongs.sealed.of_bytes.matches t.to.cell (t.to.says.1 refl)) (λ no. absurd no)
 
 pub returns-in-Err-finish-clause-step : goal.returns-in-Err-finish-clause-step
 returns-in-Err-finish-clause-step g c state standing =
@@ -92,7 +92,7 @@ returns-in-Err-finish-clause-step g c state standing =
     (subst NotGrowing (sym (t.to.says.0 refl)) tt)))
     (crash_takes t) failed (λ trust known. refl) t.to.step
     (λ e. subst (FailsBy (faulty_of g.D.Draft.Draft g.D.Reader.Reader) (mark_of g.D.PoolDisks c.args.self.now.pool.disks) (mark_of g.D.PoolDisks c.finish.new.self.disks) (state.writers id) (state.cells id) finish) (sym (t.to.says.0 refl)) (c.in-Err-finish.ensures.failed refl)) (λ e x. absurd cc) refl
-    (learns_doubt state.metas id pair.id pair.stamp at.bytes (meta_of belongs) key belongs.sealed.of_bytes.matches t.to.cell (t.to.says.0 refl))
+    (learns_doubt state.metas id pair.id pair.stamp at.bytes (meta_of belongs) key belongs.sealed.of_bytes.matches t.to.cell (t.to.says.0 refl)) (λ no. absurd no)
 
 pub returns-in-Err-Memory-default-clause-step : goal.returns-in-Err-Memory-default-clause-step
 returns-in-Err-Memory-default-clause-step g c state standing =
@@ -112,7 +112,7 @@ returns-in-Err-Memory-default-clause-step g c state standing =
     (λ x. x) (λ other apart. refl) seen.0 (λ other apart. refl)
     (subst (λ o. MatchOption o (NotGrowing (state.cells id)) (OpenWriter told entries id (state.cells id) (state.writers id))) (sym seen.1) open_still))
     (crash_only (λ sound. subst (PoolStands told (g.D.PoolDisks.volume_count c.args.self.now.pool.disks) entries (found_at c.args.self.now.pool.map) matching) (sym (with_cell-same state.cells id)) sound)) memory (λ trust known. refl) (subst (λ x. Step unlimited x finish memory x) (sym at.grows) (memory_finish w.stamp (w.reserved - w.len) at.bytes))
-    (λ bad. absurd cc) (λ same waits. absurd (grows_not (state.cells id) w.stamp at.bytes (w.reserved - w.len) at.grows waits)) refl refl
+    (λ bad. absurd cc) (λ same waits. absurd (grows_not (state.cells id) w.stamp at.bytes (w.reserved - w.len) at.grows waits)) refl refl (λ no. absurd no)
 
 pub returns-in-Err-Failed-default-clause-step : goal.returns-in-Err-Failed-default-clause-step
 returns-in-Err-Failed-default-clause-step g c state standing =
@@ -132,4 +132,4 @@ returns-in-Err-Failed-default-clause-step g c state standing =
     (crash_takes t) failed (λ trust known. refl) t.to.step
     (λ same. subst (FailsBy (faulty_of g.D.Draft.Draft g.D.Reader.Reader) (mark_of g.D.PoolDisks c.args.self.now.pool.disks) (mark_of g.D.PoolDisks c.fail_write.new.self.disks) (state.writers id) (state.cells id) finish) (sym t.to.says)
     (inl (faulty_writer g.D.Draft.Draft.place g.D.Draft.Draft.faults (f w) (state.writers id) _ _ _ _ _ _ at.stands.block at.stands.meta at.block_given at.meta_given (e.ensures.failed e.field-0-0-is).1)))
-    (λ bad x. absurd cc) refl (learns_waiting state.metas id t.to.cell t.to.says)
+    (λ bad x. absurd cc) refl (learns_waiting state.metas id t.to.cell t.to.says) (λ no. absurd no)

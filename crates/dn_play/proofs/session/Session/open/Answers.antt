@@ -9,7 +9,7 @@ use Rattle.pair_draft.specs.Writers.{writer_of}
 use Rattle.dn_play.specs.State.{Numbers}
 use Rattle.dn_play.specs.Standing.{NotGrowing, OpenWriter}
 use Rattle.dn_play.proofs.Stepping.{loose, crash_takes, crash_same, goes_on, stays_on, none_open, carried_same, carried, carried_on, seen_same, put_new, put_here, put_other, made_number}
-use Rattle.dn_play.proofs.Stepped.{says_fault, is_failed, is_memory, begins_nothing}
+use Rattle.dn_play.proofs.Stepped.{start_gives_nothing, says_fault, is_failed, is_memory, begins_nothing}
 use Rattle.dn_play.proofs.session.Session.open.Goals as goal
 
 pub returns-in-Some-clause-step : goal.returns-in-Some-clause-step
@@ -18,14 +18,14 @@ returns-in-Some-clause-step g c state standing =
     carried_same standing (crash_same _ _ _) (start_fault fault) (λ trust known. says_fault trust fault _ c.refusal_of.ensures)
     (c.in-Some.ensures.refused state.cells c.args.stamp c.args.need (loose standing))
     (λ e. absurd (c.in-Some.ensures.not_a_fault.0 (is_failed fault e))) (λ e w. absurd (c.in-Some.ensures.not_a_fault.1 (is_memory fault e)))
-    (begins_nothing c.args.stamp c.args.need fault) refl
+    (begins_nothing c.args.stamp c.args.need fault) refl (λ no. absurd (start_gives_nothing fault no))
 
 pub returns-in-Err-clause-step : goal.returns-in-Err-clause-step
 returns-in-Err-clause-step g c state standing =
     let is_absent = c.write_refusal.ensures.absent state.cells (loose standing) c.in_default.is in
     carried_same (stays_on standing standing.pool (λ t. t) (λ id. refl) (seen_same (writer_of g.D.Draft.Draft.place g.D.Draft.Draft.bytes) _ _ c.make_room.ensures.same))
     (crash_same _ _ _) memory (λ trust known. refl) (c.write_refusal.ensures.memory state.cells c.args.stamp c.args.need (omega arith) (loose standing) c.in_default.is)
-    (λ e. absurd cc) (λ e w. absurd (let bad : Rattle.map_model.specs.Cells.absent ≡ Rattle.map_model.specs.Cells.waiting = sym is_absent ∙ w in cc)) refl refl
+    (λ e. absurd cc) (λ e w. absurd (let bad : Rattle.map_model.specs.Cells.absent ≡ Rattle.map_model.specs.Cells.waiting = sym is_absent ∙ w in cc)) refl refl (λ no. absurd no)
 
 pub returns-in-Err-start_write-clause-step : goal.returns-in-Err-start_write-clause-step
 returns-in-Err-start_write-clause-step g c state standing =
@@ -41,7 +41,7 @@ returns-in-Err-start_write-clause-step g c state standing =
     (subst (λ o. MatchOption o (NotGrowing t.to.cell) (OpenWriter (g.D.PoolDisks.worlds c.start_write.new.self.disks) (Rattle.pool_state.specs.Books.entry_at c.start_write.new.self.map) c.args.id t.to.cell (state.writers c.args.id))) (sym (seen_same f _ _ c.make_room.ensures.same c.args.id ∙ none)) rests))
     (crash_takes t) (start_fault fault) (λ trust known. says_fault trust fault _ c.refusal_of-in-Err-start_write.ensures) t.to.step
     (λ e. (c.in-Err-start_write.ensures.failed (ap Err (is_failed fault e)), t.to.says.0 (ap Err (is_failed fault e))))
-    (λ e w. t.to.says.1 (ap Err (is_memory fault e)) w) (begins_nothing c.args.stamp c.args.need fault) refl
+    (λ e w. t.to.says.1 (ap Err (is_memory fault e)) w) (begins_nothing c.args.stamp c.args.need fault) refl (λ no. absurd (start_gives_nothing fault no))
 
 pub returns-clause-step : goal.returns-clause-step
 returns-clause-step g c state standing =
@@ -71,4 +71,4 @@ returns-clause-step g c state standing =
     seen.0 (λ other apart. put_other other id new_numbers (state.writers other) apart)
     (subst (λ o. MatchOption o (NotGrowing t.to.cell) (OpenWriter (g.D.PoolDisks.worlds c.start_write.new.self.disks) (Rattle.pool_state.specs.Books.entry_at c.start_write.new.self.map) id t.to.cell (numbers id))) (sym seen.1)
     (subst (λ n. OpenWriter (g.D.PoolDisks.worlds c.start_write.new.self.disks) (Rattle.pool_state.specs.Books.entry_at c.start_write.new.self.map) id t.to.cell n (f w)) (sym (put_here id id new_numbers (state.writers id) refl)) opened)))
-    (crash_takes t) done (λ trust known. refl) t.to.step (λ e. absurd cc) (λ e x. absurd cc) (λ other. refl) refl
+    (crash_takes t) done (λ trust known. refl) t.to.step (λ e. absurd cc) (λ e x. absurd cc) (λ other. refl) refl (λ no. absurd no)

@@ -20,7 +20,7 @@ returns-in_default-clause-step g c state standing =
     let f = writer_of g.D.Draft.Draft.place g.D.Draft.Draft.bytes in
     let none = mapped_none _ _ (sym c.room_left.ensures.left ∙ c.in_default.is) in
     let rests = no_writer_of_block _ _ _ (ap (option_map f) none) (standing.writer id c.room_left.ensures.valid) in
-    carried_same standing (crash_same _ _ _) no_writer (λ trust known. refl) (no_push (state.cells id) c.args.piece.now rests) (λ e. absurd cc) (λ e w. absurd cc) refl refl
+    carried_same standing (crash_same _ _ _) no_writer (λ trust known. refl) (no_push (state.cells id) c.args.piece.now rests) (λ e. absurd cc) (λ e w. absurd cc) refl refl (λ no. absurd no)
 
 pub returns-then-piece-left-clause-step : goal.returns-then-piece-left-clause-step
 returns-then-piece-left-clause-step g c state standing =
@@ -32,7 +32,7 @@ returns-then-piece-left-clause-step g c state standing =
     let cell : state.cells id ≡ growing some.0.stamp None at.bytes left = at.grows ∙ ap (λ n. growing some.0.stamp None at.bytes n) some.2 in
     carried_same standing (crash_same _ _ _) (over left) (λ trust known. refl)
     (subst (λ x. Step unlimited x (push c.args.piece.now) (over left) x) (sym cell) (over_push some.0.stamp left at.bytes c.args.piece.now (omega arith)))
-    (λ e. absurd cc) (λ e w. absurd cc) refl refl
+    (λ e. absurd cc) (λ e w. absurd cc) refl refl (λ no. absurd no)
 
 pub returns-in-Err-clause-step : goal.returns-in-Err-clause-step
 returns-in-Err-clause-step g c state standing =
@@ -49,7 +49,7 @@ returns-in-Err-clause-step g c state standing =
     carried_same (stays_on standing standing.pool (λ t. t) (λ other. refl) (seen_same f _ _ c.in-Err.ensures.same))
     (crash_same _ _ _) memory (λ trust known. is_memory)
     (subst (λ x. Step unlimited x (push c.args.piece.now) memory x) (sym cell) (memory_push some.0.stamp left at.bytes c.args.piece.now (omega arith)))
-    (λ e. absurd cc) (λ e w. absurd (grows_not (state.cells id) some.0.stamp at.bytes left cell w)) refl refl
+    (λ e. absurd cc) (λ e w. absurd (grows_not (state.cells id) some.0.stamp at.bytes left cell w)) refl refl (λ no. absurd no)
 
 pub push-requires : goal.push-requires
 push-requires g c =
@@ -82,7 +82,7 @@ returns-in-Ok-push-clause-step g c state standing =
     (subst (λ o. MatchOption o (NotGrowing t.cell) (OpenWriter told entries id t.cell (state.writers id))) (sym seen.1)
     (open_goes_on told told entries entries id (state.cells id) t.cell (state.writers id) (f w) (f new) (at.bytes ++ piece) at done_so.keeps keeps_meta
     (stands_pushed at.stands done_so.keeps keeps_meta (done_so.pushed told at.bytes at.stands.pushed)) t.says)))
-    (crash_only (t.stands matching)) done (λ trust known. refl) t.step (λ e. absurd cc) (λ e x. absurd cc) refl refl
+    (crash_only (t.stands matching)) done (λ trust known. refl) t.step (λ e. absurd cc) (λ e x. absurd cc) refl refl (λ no. absurd no)
 
 pub returns-in-Err-Failed-clause-step : goal.returns-in-Err-Failed-clause-step
 returns-in-Err-Failed-clause-step g c state standing =
@@ -108,7 +108,7 @@ returns-in-Err-Failed-clause-step g c state standing =
     (subst NotGrowing (sym t.to.says) tt)))
     (crash_takes t) failed (λ trust known. refl) t.to.step
     (λ same. inl (faulty_block g.D.Draft.Draft.place g.D.Draft.Draft.faults (state.writers id) new.block _ _ _ (e.ensures.keeps.block ∙ at.stands.block) at.block_given (rose_above _ _ faulty.1)))
-    (λ bad x. absurd (failed_not_memory bad)) refl refl
+    (λ bad x. absurd (failed_not_memory bad)) refl refl (λ no. absurd no)
 
 -- which never comes, since what is left was asked before
 pub returns-in-Err-Over-clause-step : goal.returns-in-Err-Over-clause-step
@@ -138,4 +138,4 @@ returns-in-Err-Memory-clause-step g c state standing =
     (everywhere id _ _ seen.0 (seen.1 ∙ ap Some (e.ensures.same_memory (ap Err e.field-0-is)) ∙ sym (ap (option_map f) c.in-Ok.ensures.ok))))
     (crash_same _ _ _) memory (λ trust known. refl)
     (subst (λ x. Step unlimited x (push c.args.piece.now) memory x) (sym cell) (memory_push some.0.stamp left at.bytes c.args.piece.now (omega arith)))
-    (λ e. absurd cc) (λ e x. absurd (grows_not (state.cells id) some.0.stamp at.bytes left cell x)) refl refl
+    (λ e. absurd cc) (λ e x. absurd (grows_not (state.cells id) some.0.stamp at.bytes left cell x)) refl refl (λ no. absurd no)

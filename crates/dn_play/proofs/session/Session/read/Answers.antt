@@ -4,7 +4,7 @@ use Rattle.pool_state.specs.Answers.{unlimited, start_fault}
 use Rattle.pool_state.specs.Books.{entry_at}
 use Rattle.dn_play.specs.Standing.{SoundFor}
 use Rattle.dn_play.proofs.Stepping.{loose, crash_rests, stays_on, carried_same}
-use Rattle.dn_play.proofs.Stepped.{says_fault, is_failed, no_lack, reads_content, reads_failed, reads_memory, not_waiting, gives_data, gives_verdict, faulty_reader}
+use Rattle.dn_play.proofs.Stepped.{start_gives_nothing, says_fault, is_failed, no_lack, reads_content, reads_failed, reads_memory, not_waiting, gives_data, gives_verdict, faulty_reader}
 use Rattle.dn_play.proofs.session.Session.read.Goals as goal
 
 pub returns-in-Err-clause-step : goal.returns-in-Err-clause-step
@@ -15,7 +15,7 @@ returns-in-Err-clause-step g c state standing =
     (crash_rests (c.start_read.ensures.quiet state.cells (loose standing)))
     (start_fault fault) (λ trust known. says_fault trust fault _ c.refusal_of.ensures) step
     (λ e. inl (c.in-Err.ensures.failed (ap Err (is_failed fault e))))
-    (λ e w. absurd (no_lack (state.cells c.args.id) (subst (λ a. Step unlimited (state.cells c.args.id) read a (state.cells c.args.id)) e step) w)) refl refl
+    (λ e w. absurd (no_lack (state.cells c.args.id) (subst (λ a. Step unlimited (state.cells c.args.id) read a (state.cells c.args.id)) e step) w)) refl refl (λ no. absurd (start_gives_nothing fault no))
 
 pub returns-in-Ok-read_all-clause-step : goal.returns-in-Ok-read_all-clause-step
 returns-in-Ok-read_all-clause-step g c state standing =
@@ -27,7 +27,7 @@ returns-in-Ok-read_all-clause-step g c state standing =
     (λ trust known. gives_data lent (SoundFor c.args.self.now state.cells)
     _ _ c.get-stamp.ensures.value (ap length c.new.ensures ∙ all_read.len)
     (λ all is. c.new.ensures ∙ all_read.bytes all is) (λ sums block_is meta_is few. all_read.verified _ sums (record { block_is = block_is; meta_is = meta_is; few = few })) trust known)
-    (reads_content (state.cells c.args.id) lent.replica lent.cell_is) (λ e. absurd cc) (λ e w. absurd cc) refl refl
+    (reads_content (state.cells c.args.id) lent.replica lent.cell_is) (λ e. absurd cc) (λ e w. absurd cc) refl refl (λ yes. c.in-Ok.ensures.looked refl)
 
 pub returns-in-Err-Failed-clause-step : goal.returns-in-Err-Failed-clause-step
 returns-in-Err-Failed-clause-step g c state standing =
@@ -39,7 +39,7 @@ returns-in-Err-Failed-clause-step g c state standing =
       | inl block ↦ faulty_reader g.D.Reader.Reader.number g.D.Reader.Reader.faults _ _ c.in-Ok.pair.block block c.in-Ok.ensures.block_number
       | inr meta ↦ faulty_reader g.D.Reader.Reader.number g.D.Reader.Reader.faults _ _ c.in-Ok.pair.meta meta c.in-Ok.ensures.meta_number
     ])))
-    (λ e w. absurd cc) refl refl
+    (λ e w. absurd cc) refl refl (λ no. absurd no)
 
 pub verdict_reply_of-requires : goal.verdict_reply_of-requires
 verdict_reply_of-requires g c = record { not_whole = c.in-Err-Bad.ensures.not_whole c.in-Err-Bad.verdict (ap Err c.in-Err-Bad.field-0-is) }
@@ -60,7 +60,7 @@ returns-in-Err-Bad-clause-step g c state standing =
     let it = sound_lent.meta_is told in
     e.ensures.whole _ it.content (record { block_is = sound_lent.bytes_are told; meta_is = it.is; few = it.few }) it.matches (sym sound_lent.len_is) e.verdict is)
     trust known)
-    (reads_content (state.cells c.args.id) lent.replica lent.cell_is) (λ x. absurd cc) (λ x w. absurd cc) refl refl
+    (reads_content (state.cells c.args.id) lent.replica lent.cell_is) (λ x. absurd cc) (λ x w. absurd cc) refl refl (λ yes. c.in-Ok.ensures.looked refl)
 
 pub returns-in_default-clause-step : goal.returns-in_default-clause-step
 returns-in_default-clause-step g c state standing =
@@ -68,7 +68,7 @@ returns-in_default-clause-step g c state standing =
     carried_same (stays_on standing ((c.start_read.ensures.quiet state.cells (loose standing)).stands _ standing.pool) c.start_read.ensures.goes_on.honest.1 (λ id. ap (λ m. entry_at m id) c.start_read.ensures.map) (λ id. refl))
     (crash_rests (c.start_read.ensures.quiet state.cells (loose standing)))
     memory (λ trust known. refl) (reads_memory (state.cells c.args.id) lent.replica lent.cell_is)
-    (λ e. absurd cc) (λ e w. absurd (not_waiting (state.cells c.args.id) lent.replica lent.cell_is w)) refl refl
+    (λ e. absurd cc) (λ e w. absurd (not_waiting (state.cells c.args.id) lent.replica lent.cell_is w)) refl refl (λ no. absurd no)
 
 pub returns-clause-step : goal.returns-clause-step
 returns-clause-step g c state standing =
@@ -76,4 +76,4 @@ returns-clause-step g c state standing =
     carried_same (stays_on standing ((c.start_read.ensures.quiet state.cells (loose standing)).stands _ standing.pool) c.start_read.ensures.goes_on.honest.1 (λ id. ap (λ m. entry_at m id) c.start_read.ensures.map) (λ id. refl))
     (crash_rests (c.start_read.ensures.quiet state.cells (loose standing)))
     memory (λ trust known. refl) (reads_memory (state.cells c.args.id) lent.replica lent.cell_is)
-    (λ e. absurd cc) (λ e w. absurd (not_waiting (state.cells c.args.id) lent.replica lent.cell_is w)) refl refl
+    (λ e. absurd cc) (λ e w. absurd (not_waiting (state.cells c.args.id) lent.replica lent.cell_is w)) refl refl (λ no. absurd no)

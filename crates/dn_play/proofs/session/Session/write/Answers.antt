@@ -13,10 +13,10 @@ use Rattle.dn_play.specs.Commands.{FailsBy}
 use Rattle.dn_play.specs.State.{Numbers}
 use Rattle.dn_play.specs.Standing.{NotGrowing, OpenWriter}
 use Rattle.dn_play.proofs.Stepping.{loose, with_cell-here, crash_takes, crash_same, goes_on, none_open, carried_same, carried_learning, carried_on, made_number}
-use Rattle.dn_play.proofs.Stepped.{says_fault, is_failed, is_memory, write_learns_nothing, write_refused, write_unstarted, faulty_writer, has_meta, write_begins_nothing}
+use Rattle.dn_play.proofs.Stepped.{start_gives_nothing, says_fault, is_failed, is_memory, write_learns_nothing, write_refused, write_unstarted, faulty_writer, has_meta, write_begins_nothing}
 use Rattle.dn_play.proofs.Composing.{safe_then, grows_started, grows_pushed, ended_stands, ended_safe}
 use Rattle.map_model.specs.Sound.{Knowledge}
-use Rattle.dn_play.proofs.Ended.{end_knows, fill_step, says_end, ends_failed, end_rests, fails_write}
+use Rattle.dn_play.proofs.Ended.{end_gives_nothing, end_knows, fill_step, says_end, ends_failed, end_rests, fails_write}
 use Rattle.dn_play.proofs.Progress.{rose_from}
 use Rattle.dn_play.proofs.session.Session.write.Goals as goal
 
@@ -27,7 +27,7 @@ returns-in-Some-clause-step g c state standing =
     (write_refused (state.cells c.args.id) c.args.stamp c.args.piece.now fault (omega arith) c.in-Some.ensures.not_a_fault.0 c.in-Some.ensures.not_a_fault.1
     (c.in-Some.ensures.refused state.cells c.args.stamp (length c.args.piece.now) (loose standing)))
     (λ e. absurd (c.in-Some.ensures.not_a_fault.0 (is_failed fault e))) (λ e w. absurd (c.in-Some.ensures.not_a_fault.1 (is_memory fault e))) refl
-    (write_learns_nothing c.args.stamp c.args.piece.now fault state.metas c.args.id (state.cells c.args.id) (λ e. absurd (c.in-Some.ensures.not_a_fault.0 e)))
+    (write_learns_nothing c.args.stamp c.args.piece.now fault state.metas c.args.id (state.cells c.args.id) (λ e. absurd (c.in-Some.ensures.not_a_fault.0 e))) (λ no. absurd (start_gives_nothing fault no))
 
 pub returns-in-Err-clause-step : goal.returns-in-Err-clause-step
 returns-in-Err-clause-step g c state standing =
@@ -44,7 +44,7 @@ returns-in-Err-clause-step g c state standing =
     (λ e. subst (FailsBy (faulty_of g.D.Draft.Draft g.D.Reader.Reader) (mark_of g.D.PoolDisks c.args.self.now.pool.disks) (mark_of g.D.PoolDisks c.write_start.new.pool.disks) (state.writers c.args.id) (state.cells c.args.id) (write c.args.stamp c.args.piece.now))
     (sym (t.to.says.0 (ap Err (is_failed fault e)))) (inl (c.in-Err.ensures.failed (ap Err (is_failed fault e))), refl))
     (λ e w. t.to.says.1 (ap Err (is_memory fault e)) w) refl
-    (write_learns_nothing c.args.stamp c.args.piece.now fault state.metas c.args.id t.to.cell (λ e. t.to.says.0 (ap Err e)))
+    (write_learns_nothing c.args.stamp c.args.piece.now fault state.metas c.args.id t.to.cell (λ e. t.to.says.0 (ap Err e))) (λ no. absurd (start_gives_nothing fault no))
 
 pub op_fill-filled-requires : goal.op_fill-filled-requires
 op_fill-filled-requires g c = record { whole = has_meta g.D.Draft.Draft.place (op_writer c.in-Ok.op).meta _ c.in-Ok.ensures.writer.meta }
@@ -102,4 +102,4 @@ returns-clause-step g c state standing =
     (record { since = omega (arith, block_is, given.since); before = omega (arith, block_is, given.before, later) })
     (record { since = meta_given.since; before = omega (arith, meta_given.before, later) })
     (c.op_fill-filled.ensures.failed stopped))))
-    (λ same x. omega (arith, given.since, given.before, later)) (write_begins_nothing stamp piece (op_answer reply)) knows.after
+    (λ same x. omega (arith, given.since, given.before, later)) (write_begins_nothing stamp piece (op_answer reply)) knows.after (λ no. absurd (end_gives_nothing reply no))

@@ -1,6 +1,6 @@
 use Rattle.std.proofs.Common.{refl, sym, ◌∙◌}
 use Rattle.pool_state.proofs.Showing.{begins, calls, rests}
-use Rattle.pool_state.proofs.Lending.{stands_looked, looked_images, lend_free, lends}
+use Rattle.pool_state.proofs.Lending.{stands_looked, looked_images, lend_free, lends, looked_for_two}
 use Rattle.map_model.specs.Slots.{block, meta}
 use Rattle.pool_state.proofs.pool_record.Pool.start_read.Goals as goal
 
@@ -34,3 +34,13 @@ returns-clause-lent g c known cells stands =
     lends stands (stands_looked _ _ _ _ _ _ known cells stands c.in_ok-block.ensures.looked c.in_ok-block.ensures.goes_on.volume_count)
     c.args.id c.find.ensures.valid c.in-Some.entry (sym c.find.ensures.entry ∙ c.in-Some.is) c.in-Finalised.is g.D.Reader.Reader.bytes c.in_ok-block.block c.in_ok-meta.meta
     c.in_ok-block.ensures.file c.in_ok-meta.ensures.file c.in_ok-meta.ensures.limit
+
+pub returns-clause-looked : goal.returns-clause-looked
+returns-clause-looked g c ok =
+    let one = c.in_ok-block.ensures.goes_on in
+    let two = c.in_ok-meta.ensures.goes_on in
+    looked_for_two g.D.Reader.Reader.number _ _ _
+    (record { faults = one.faults; absences = one.absences; next_number = one.next_number; moment = one.moment })
+    (record { faults = two.faults; absences = two.absences; next_number = two.next_number; moment = two.moment })
+    c.in_ok-block.block c.in_ok-meta.meta
+    c.in_ok-block.ensures.absent c.in_ok-block.ensures.number c.in_ok-meta.ensures.absent c.in_ok-meta.ensures.number
