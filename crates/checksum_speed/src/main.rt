@@ -1,5 +1,5 @@
 //! `checksum_speed`: sums a buffer of 65,536 bytes in chunks of 512 as often as its one word says, and prints how many bytes
-//! of checksums the last turn gave. What it takes is measured from outside, by `checks/checksum_speed.py`.
+//! of checksums the last turn gave. What it takes is measured from outside, by `bench/checksum_speed.py`.
 #![tactic(auto)]
 
 ghost use Rattle.std.specs.Prelude.{◌≡◌, ◌≤◌, ◌*◌, ◌/◌, length};

@@ -1,17 +1,22 @@
 #!/usr/bin/env python3
 """Runs `dnplay` over a real directory against a reference of its own: a plain map of blocks.
 
-    python3 checks/against_reference.py COUNT
+    python3 trials/against_reference.py [COUNT] [--seed N] [--seconds N]
 
-It wants the program that `rt run` in `crates/dnplay` builds. COUNT times four random scripts run one after the other over
-one directory, and every reply is compared; then COUNT times three scripts are killed at a random moment, and what the next
-run reads is compared: all that was answered stands, and only the block of the line that was cut off may stand before or
-after that line. Between two scripts some files of replicas are spoilt, so that reads answer verdicts, and each meta file
-that the program wrote is compared with checksums made here. It ends with a line of what was run, or with the first
-difference.
+It wants the program that `rt run` in `crates/dnplay`, or the gate, leaves in `crates/dnplay/out`. For each of COUNT
+seeds from N on (0 where none is given) four random scripts run one after the other over one directory, and every reply
+is compared; then three scripts are killed at a random moment, and what the next run reads is compared: all that was
+answered stands, and only the block of the line that was cut off may stand before or after that line. Between two
+scripts some files of replicas are spoilt, so that reads answer verdicts, and each meta file that the program wrote is
+compared with checksums made here. With --seconds no seed but the first begins later than that; without COUNT all begin
+that do by then. It ends with a line of what was run, or with the first difference and status 1; the directory, in
+`crates/dnplay/out`, is left as it was found then.
 """
 
+import argparse
 import copy
+import itertools
+import os
 import pathlib
 import random
 import shutil
@@ -21,8 +26,10 @@ import time
 
 CRATE = pathlib.Path(__file__).resolve().parent.parent / "crates" / "dnplay"
 PROGRAM = CRATE / "out" / "dnplay"
-DIRECTORY = CRATE / "out" / "reference"
+DIRECTORY = CRATE / "out" / f"reference-{os.getpid()}"
 COMMAND = [str(PROGRAM), "bp1", "DN-1", f"DS-1:1000:{DIRECTORY}"]
+# how long one run may take, in seconds
+LIMIT = 30
 IDS = ["1", "2", "3", "70000", str(2**63 - 1)]
 
 
@@ -171,7 +178,11 @@ def random_line(rng):
 
 
 def played(lines):
-    run = subprocess.run(COMMAND, input="".join(line + "\n" for line in lines).encode(), capture_output=True)
+    script = "".join(line + "\n" for line in lines).encode()
+    try:
+        run = subprocess.run(COMMAND, input=script, capture_output=True, timeout=LIMIT)
+    except subprocess.TimeoutExpired:
+        sys.exit(f"a run of {len(lines)} lines had not ended after {LIMIT} seconds")
     if run.returncode != 0:
         sys.exit(f"status {run.returncode}: {run.stdout[-200:]!r}")
     return run.stdout.decode().split("\n")[:-1]
@@ -274,12 +285,27 @@ def compare_killed(seed):
 
 
 def main():
-    count = int(sys.argv[1])
-    for seed in range(count):
+    parser = argparse.ArgumentParser(description="Runs dnplay over a real directory against a plain map of blocks.")
+    parser.add_argument("count", metavar="COUNT", type=int, nargs="?", help="how many seeds")
+    parser.add_argument("--seed", type=int, default=0, help="the first seed")
+    parser.add_argument("--seconds", type=float, help="begin no further seed after so many seconds")
+    said = parser.parse_args()
+    if said.count is None and said.seconds is None:
+        parser.error("COUNT or --seconds must be given")
+    if said.count is not None and said.count < 1:
+        parser.error("COUNT is 1 or more")
+    if not PROGRAM.exists():
+        sys.exit(f"{PROGRAM} isn't there: see README.md on how to build it")
+    begun, done = time.monotonic(), 0
+    for seed in itertools.count(said.seed):
+        is_late = said.seconds is not None and done > 0 and time.monotonic() - begun >= said.seconds
+        if done == said.count or is_late:
+            break
         compare(seed)
         compare_killed(seed)
+        done += 1
     shutil.rmtree(DIRECTORY, ignore_errors=True)
-    print(f"{4 * count} scripts and {3 * count} killed scripts: every reply is that of the reference")
+    print(f"{4 * done} scripts and {3 * done} killed scripts: every reply is that of the reference")
 
 
 if __name__ == "__main__":

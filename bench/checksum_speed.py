@@ -1,11 +1,12 @@
 #!/usr/bin/env python3
 """Measures the checksums of `meta_file` beside those of zlib, in one run.
 
-    python3 checks/checksum_speed.py
+    python3 bench/checksum_speed.py
 
-It wants the program that `rt run` in `crates/checksum_speed` builds, and python3's zlib. It prints how many bytes each of
-them sums in a second of processor time, over one buffer of 65,536 bytes; the program in chunks of 512. Where valgrind
-and a C compiler are there, it also prints the instructions a byte, and those of a loop in C that sums by eight bytes.
+It wants the program that `rt run` in `crates/checksum_speed` builds, and python3's zlib. It prints how many bytes each
+of them sums in a second of processor time, over one buffer of 65,536 bytes; the program in chunks of 512. Where
+valgrind and a C compiler are there, it also prints the instructions a byte, and those of a loop in C that sums by eight
+bytes.
 """
 
 import pathlib
