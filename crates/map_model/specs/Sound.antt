@@ -3,7 +3,7 @@ use Rattle.std.specs.Prelude.{ℕ, Bool, true, false, ⊤, List, IsSomeAnd}
 use Rattle.volume_layout.specs.Paths.{IsBlockId}
 use Rattle.disk_model.specs.Files.{Files}
 use Rattle.map_model.specs.Cells.{Replica}
-use Rattle.map_model.specs.Checksums.{Matches}
+use Rattle.meta_file.specs.Checksums.{Matches}
 use Rattle.map_model.specs.Copies.{Spot, BlockFiles, IsGreatestCopy, block_files}
 
 -- a meta file matches the bytes, where the disks began with metas that match; else nothing is said

@@ -1,5 +1,5 @@
 // What an image shows of the blocks that a disk stands for.
-ghost use Rattle.map_model.specs.Checksums.{Matches};
+ghost use Rattle.meta_file.specs.Checksums.{Matches};
 ghost use Rattle.map_model.specs.Laws.{BlockAllows, BlockIsSound, OneReading, OtherBlocksStand, StandsAllows, StandsIsSound};
 
 /// What stands for a block is read as the cell of the block allows.

@@ -1,5 +1,5 @@
 // Each tenure keeps what stands of its block.
-ghost use Rattle.map_model.specs.Checksums.{Matches};
+ghost use Rattle.meta_file.specs.Checksums.{Matches};
 ghost use Rattle.map_model.specs.TenureLaws.{BeginMoveStands, DeleteFinalStands, DeleteUnsureStands, DeleteWaitingStands, DropAppendStands, DropMoveStands, DropWriteStands, FinishAppendStands, FinishWriteIsBetween, FinishWriteStands, NothingStands, PublishMoveStands, RemovalStands, StartAppendStands, StartWriteIsQuiet, StartWriteStands};
 
 /// Of a block of which no file stands, the books know nothing, and it is absent.

@@ -1,4 +1,4 @@
-use Rattle.map_model.specs.Checksums.{Matches}
+use Rattle.meta_file.specs.Checksums.{Matches}
 use Rattle.map_model.proofs.LawProofs as laws
 use Rattle.map_model.proofs.images.stands_allows.Goals as goal
 

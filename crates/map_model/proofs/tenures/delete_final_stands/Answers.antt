@@ -1,4 +1,4 @@
-use Rattle.map_model.specs.Checksums.{Matches}
+use Rattle.meta_file.specs.Checksums.{Matches}
 use Rattle.map_model.proofs.Delete.{delete_final_stands}
 use Rattle.map_model.proofs.tenures.delete_final_stands.Goals as goal
 

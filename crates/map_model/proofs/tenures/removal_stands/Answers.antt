@@ -1,4 +1,4 @@
-use Rattle.map_model.specs.Checksums.{Matches}
+use Rattle.meta_file.specs.Checksums.{Matches}
 use Rattle.map_model.proofs.Removing.{removes_stands}
 use Rattle.map_model.proofs.tenures.removal_stands.Goals as goal
 

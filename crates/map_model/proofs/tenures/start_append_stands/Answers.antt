@@ -1,4 +1,4 @@
-use Rattle.map_model.specs.Checksums.{Matches}
+use Rattle.meta_file.specs.Checksums.{Matches}
 use Rattle.map_model.proofs.StartAppend.{start_append_stands}
 use Rattle.map_model.proofs.tenures.start_append_stands.Goals as goal
 
