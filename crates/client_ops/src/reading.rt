@@ -1,6 +1,6 @@
 //! Reading a replica as a whole: its bytes are verified before they are given.
 ghost use Rattle.std.specs.Prelude.{◌≡◌, ◌≢◌, ◌<◌, ◌≤◌, ℕ, List, length, take, Some, IfOk, OnOk, IsErr, IsErrOf};
-ghost use Rattle.map_model.specs.Checksums.{Matches};
+ghost use Rattle.meta_file.specs.Checksums.{Matches};
 ghost use Rattle.meta_file.specs.Verdicts.{verdict_of};
 ghost use Rattle.meta_file.specs.declared.verdict.Verdict.TheVariants.{Whole, Short};
 ghost use Rattle.pair_draft.specs.Checking.{IsOnLength};

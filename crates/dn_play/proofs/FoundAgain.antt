@@ -11,7 +11,9 @@ use Rattle.map_model.specs.Cells.{Replica, Cell, Cells, absent, final, growing, 
 use Rattle.map_model.specs.Copies.{Spot, BlockFiles, IsCopy, IsAlone, ReadsAs, OneWhole}
 use Rattle.map_model.specs.Allows.{AllowsFiles, AllowsImage}
 use Rattle.map_model.specs.Openings.{LeavesBlockFile, WaitsExactly, MakesCell, shown_files}
-use Rattle.map_model.specs.Slots.{File, block, writing_block, is_standing, View, files_in, view_of}
+use Rattle.volume_layout.specs.declared.block_file.BlockFile.{BlockFile}
+use Rattle.volume_layout.specs.declared.block_file.BlockFile.TheVariants.{Block, WritingBlock}
+use Rattle.map_model.specs.Slots.{is_standing, View, files_in, view_of}
 use Rattle.map_model.specs.Sound.{Knowledge, matching, exactly, Fits, HasSoundCopies, IsSound}
 use Rattle.map_model.specs.Stands.{Agrees, Leftover, is_written, is_waiting, WritesOver, Entry as BookEntry, BlockStands}
 use Rattle.map_model.specs.Steps.{FoundAs, Reopened}
@@ -73,17 +75,17 @@ absent_entry : (entry : Option Entry) → Agrees (option_map book_entry entry) a
 absent_entry None agrees = refl
 absent_entry (Some e) agrees = absurd agrees
 
-nothing_stands : (M : List ℕ → Replica → Type 0) (view : View) → BlockStands M view (block_books None []) absent → (vol : ℕ) (file : File) → IsTrue (is_standing (view vol file)) → ⊥
+nothing_stands : (M : List ℕ → Replica → Type 0) (view : View) → BlockStands M view (block_books None []) absent → (vol : ℕ) (file : BlockFile) → IsTrue (is_standing (view vol file)) → ⊥
 nothing_stands M view stands vol file there = elim (stands.accounted vol file there) [
   | inl (inl names) ↦ names
   | inl (inr names) ↦ names
   | inr listed ↦ listed
 ]
 
-no_block_file : (view : View) → ((vol : ℕ) (file : File) → IsTrue (is_standing (view vol file)) → ⊥) → LeavesBlockFile (files_in view) → ⊥
+no_block_file : (view : View) → ((vol : ℕ) (file : BlockFile) → IsTrue (is_standing (view vol file)) → ⊥) → LeavesBlockFile (files_in view) → ⊥
 no_block_file view none leaves = elim leaves.1 [
-  | inl written ↦ none leaves.0 writing_block written
-  | inr settled ↦ none leaves.0 block (bytes-standing (view leaves.0 block) settled)
+  | inl written ↦ none leaves.0 WritingBlock written
+  | inr settled ↦ none leaves.0 Block (bytes-standing (view leaves.0 Block) settled)
 ]
 
 -- the block file of an open writer stands

@@ -8,18 +8,21 @@ use Rattle.volume_layout.proofs.AsideLemmas.{is_aside-block_path, is_aside-meta_
 use Rattle.disk_model.specs.Files.{is_place}
 use Rattle.disk_model.specs.Worlds.{DraftPlace, draft_at, World, stands_at, has_draft, created, removed, settled_at, published}
 use Rattle.map_model.specs.World.{DraftsAside}
-use Rattle.map_model.specs.Slots.{File, block, meta, writing_block, writing_meta, temporary_block, temporary_meta, path_of, is_file, is_aside_file, drafted, slot_at, view_of}
+use Rattle.volume_layout.specs.declared.block_file.BlockFile.{BlockFile}
+use Rattle.volume_layout.specs.declared.block_file.BlockFile.TheVariants.{Block, Meta, WritingBlock, WritingMeta, TemporaryBlock, TemporaryMeta}
+use Rattle.volume_layout.specs.BlockFiles.{path_of, is_file, is_aside_file}
+use Rattle.map_model.specs.Slots.{drafted, slot_at, view_of}
 use Rattle.map_model.proofs.Places.{is_place-apart, drafted_number, has_draft-number}
 use Rattle.map_model.proofs.Bridge.{view_slot}
 
 -- which files of a block stand aside
-pub is_aside-path_of : (id : ℕ) (f : File) → is_aside (path_of id f) ≡ is_aside_file f
-is_aside-path_of id block = is_aside-block_path id
-is_aside-path_of id (meta s) = is_aside-meta_path id s
-is_aside-path_of id writing_block = is_aside-rbw_block id
-is_aside-path_of id (writing_meta s) = is_aside-rbw_meta id s
-is_aside-path_of id temporary_block = is_aside-tmp_block id
-is_aside-path_of id (temporary_meta s) = is_aside-tmp_meta id s
+pub is_aside-path_of : (id : ℕ) (f : BlockFile) → is_aside (path_of id f) ≡ is_aside_file f
+is_aside-path_of id Block = is_aside-block_path id
+is_aside-path_of id (Meta s) = is_aside-meta_path id s
+is_aside-path_of id WritingBlock = is_aside-rbw_block id
+is_aside-path_of id (WritingMeta s) = is_aside-rbw_meta id s
+is_aside-path_of id TemporaryBlock = is_aside-tmp_block id
+is_aside-path_of id (TemporaryMeta s) = is_aside-tmp_meta id s
 
 -- what is left of a list passes no test that nothing passed
 fewer : {X : Type 0} (keep test : X → Bool) (xs : List X) → list_any test xs ≡ false → list_any test (filter keep xs) ≡ false
@@ -50,17 +53,17 @@ aside_created draft world there aside v p apart =
     (aside v p apart)
 
 -- as is each of a writer's files and of a move's
-pub aside_created_file : (id number vol : ℕ) (f : File) (world : World) → is_aside_file f ≡ true → DraftsAside world →
+pub aside_created_file : (id number vol : ℕ) (f : BlockFile) (world : World) → is_aside_file f ≡ true → DraftsAside world →
     DraftsAside (created (draft_at number vol (path_of id f)) world)
 aside_created_file id number vol f world there aside =
     aside_created (draft_at number vol (path_of id f)) world (is_aside-path_of id f ∙ there) aside
 
 -- no draft stands at a finalised file
-pub aside_no_draft : (id vol : ℕ) (f : File) (world : World) → is_aside_file f ≡ false → DraftsAside world → IsFalse (has_draft world vol (path_of id f))
+pub aside_no_draft : (id vol : ℕ) (f : BlockFile) (world : World) → is_aside_file f ≡ false → DraftsAside world → IsFalse (has_draft world vol (path_of id f))
 aside_no_draft id vol f world apart aside = aside vol (path_of id f) (is_aside-path_of id f ∙ apart)
 
 -- so its slot isn't a draft's
-pub aside_not_drafted : (id vol : ℕ) (f : File) (world : World) (number : ℕ) → IsTrue (is_file f) → is_aside_file f ≡ false → DraftsAside world →
+pub aside_not_drafted : (id vol : ℕ) (f : BlockFile) (world : World) (number : ℕ) → IsTrue (is_file f) → is_aside_file f ≡ false → DraftsAside world →
     view_of world id vol f ≢ drafted number
 aside_not_drafted id vol f world number is apart aside there =
     let slot : slot_at world vol (path_of id f) ≡ drafted number = sym (view_slot world id vol f is) ∙ there in

@@ -11,43 +11,46 @@ use Rattle.disk_model.specs.Worlds.{draft_at, World, has_draft, created, removed
 use Rattle.disk_model.specs.Told.{Leaves}
 use Rattle.map_model.specs.World.{draft_number, DraftsAside}
 use Rattle.map_model.specs.Copies.{files_of, block_files, Spot}
-use Rattle.map_model.specs.Slots.{File, block, meta, writing_block, writing_meta, temporary_block, temporary_meta, path_of, is_file, same_file, Slot, empty, holds, drafted, is_standing, bytes_in, slot_of, slot_at, view_of, set_slot, create_in, publish_in, remove_in, files_in}
+use Rattle.volume_layout.specs.declared.block_file.BlockFile.{BlockFile}
+use Rattle.volume_layout.specs.declared.block_file.BlockFile.TheVariants.{Block, Meta, WritingBlock, WritingMeta, TemporaryBlock, TemporaryMeta}
+use Rattle.volume_layout.specs.BlockFiles.{path_of, is_file, same_file}
+use Rattle.map_model.specs.Slots.{Slot, empty, holds, drafted, is_standing, bytes_in, slot_of, slot_at, view_of, set_slot, create_in, publish_in, remove_in, files_in}
 use Rattle.map_model.proofs.Places.{is_place-apart, is_place-path, has_draft-number, no_number, slot_created, slot_removed, slot_settled, drafted_stands, held_holds, bare_absent, absent_empty}
 use Rattle.map_model.proofs.SlotLemmas.{same_file-is, same_file-refl}
 
 -- a file's path names its block
-pub path_id-file : (id : ℕ) (f : File) → IsBlockId id → IsTrue (is_file f) → path_id (path_of id f) ≡ id
-path_id-file id block valid is = path_id-block_path id valid
-path_id-file id (meta s) valid is = path_id-meta_path id s valid (IsStamp-is_stamp s is)
-path_id-file id writing_block valid is = path_id-rbw_block id valid
-path_id-file id (writing_meta s) valid is = path_id-rbw_meta id s valid (IsStamp-is_stamp s is)
-path_id-file id temporary_block valid is = path_id-tmp_block id valid
-path_id-file id (temporary_meta s) valid is = path_id-tmp_meta id s valid (IsStamp-is_stamp s is)
+pub path_id-file : (id : ℕ) (f : BlockFile) → IsBlockId id → IsTrue (is_file f) → path_id (path_of id f) ≡ id
+path_id-file id Block valid is = path_id-block_path id valid
+path_id-file id (Meta s) valid is = path_id-meta_path id s valid (IsStamp-is_stamp s is)
+path_id-file id WritingBlock valid is = path_id-rbw_block id valid
+path_id-file id (WritingMeta s) valid is = path_id-rbw_meta id s valid (IsStamp-is_stamp s is)
+path_id-file id TemporaryBlock valid is = path_id-tmp_block id valid
+path_id-file id (TemporaryMeta s) valid is = path_id-tmp_meta id s valid (IsStamp-is_stamp s is)
 
 -- the file that a path names: a left inverse of the paths of one block
-abbrev file_named : PathParts → File
-file_named (finalised (block_name_of n)) = block
-file_named (finalised (meta_name_of n s)) = meta s
-file_named (writing (block_name_of n)) = writing_block
-file_named (writing (meta_name_of n s)) = writing_meta s
-file_named (temporary (block_name_of n)) = temporary_block
-file_named (temporary (meta_name_of n s)) = temporary_meta s
+abbrev file_named : PathParts → BlockFile
+file_named (finalised (block_name_of n)) = Block
+file_named (finalised (meta_name_of n s)) = Meta s
+file_named (writing (block_name_of n)) = WritingBlock
+file_named (writing (meta_name_of n s)) = WritingMeta s
+file_named (temporary (block_name_of n)) = TemporaryBlock
+file_named (temporary (meta_name_of n s)) = TemporaryMeta s
 
-file_at : (id : ℕ) (f : File) → IsBlockId id → IsTrue (is_file f) → file_named (path_parts (path_of id f)) ≡ f
-file_at id block valid is = ap file_named (path_parts-block id valid)
-file_at id (meta s) valid is = ap file_named (path_parts-meta id s valid (IsStamp-is_stamp s is))
-file_at id writing_block valid is = ap file_named (path_parts-rbw_block id valid)
-file_at id (writing_meta s) valid is = ap file_named (path_parts-rbw_meta id s valid (IsStamp-is_stamp s is))
-file_at id temporary_block valid is = ap file_named (path_parts-tmp_block id valid)
-file_at id (temporary_meta s) valid is = ap file_named (path_parts-tmp_meta id s valid (IsStamp-is_stamp s is))
+file_at : (id : ℕ) (f : BlockFile) → IsBlockId id → IsTrue (is_file f) → file_named (path_parts (path_of id f)) ≡ f
+file_at id Block valid is = ap file_named (path_parts-block id valid)
+file_at id (Meta s) valid is = ap file_named (path_parts-meta id s valid (IsStamp-is_stamp s is))
+file_at id WritingBlock valid is = ap file_named (path_parts-rbw_block id valid)
+file_at id (WritingMeta s) valid is = ap file_named (path_parts-rbw_meta id s valid (IsStamp-is_stamp s is))
+file_at id TemporaryBlock valid is = ap file_named (path_parts-tmp_block id valid)
+file_at id (TemporaryMeta s) valid is = ap file_named (path_parts-tmp_meta id s valid (IsStamp-is_stamp s is))
 
 -- different files of a block have different paths
-pub path_of-injective : (id : ℕ) (f g : File) → IsBlockId id → IsTrue (is_file f) → IsTrue (is_file g) → path_of id f ≡ path_of id g → f ≡ g
+pub path_of-injective : (id : ℕ) (f g : BlockFile) → IsBlockId id → IsTrue (is_file f) → IsTrue (is_file g) → path_of id f ≡ path_of id g → f ≡ g
 path_of-injective id f g valid is_f is_g same =
     sym (file_at id f valid is_f) ∙ ap (λ p. file_named (path_parts p)) same ∙ file_at id g valid is_g
 
 -- the place of a file, as text and as a file
-place_when : (b : Bool) (id vol : ℕ) (f : File) (v : ℕ) (g : File) → IsBlockId id → IsTrue (is_file f) → IsTrue (is_file g) → same_file f g ≡ b →
+place_when : (b : Bool) (id vol : ℕ) (f : BlockFile) (v : ℕ) (g : BlockFile) → IsBlockId id → IsTrue (is_file f) → IsTrue (is_file g) → same_file f g ≡ b →
     is_place vol (path_of id f) v (path_of id g) ≡ (b && eqb vol v)
 place_when true id vol f v g valid is_f is_g same =
     subst (λ h. is_place vol (path_of id f) v (path_of id h) ≡ eqb vol v) (same_file-is f g same) (is_place-path vol (path_of id f) v)
@@ -55,11 +58,11 @@ place_when false id vol f v g valid is_f is_g same =
     is_place-apart vol (path_of id f) v (path_of id g)
     (λ e. false≢true (sym same ∙ subst (λ h. same_file f h ≡ true) (path_of-injective id f g valid is_f is_g e) (same_file-refl f)))
 
-pub place_of_file : (id vol : ℕ) (f : File) (v : ℕ) (g : File) → IsBlockId id → IsTrue (is_file f) → IsTrue (is_file g) →
+pub place_of_file : (id vol : ℕ) (f : BlockFile) (v : ℕ) (g : BlockFile) → IsBlockId id → IsTrue (is_file f) → IsTrue (is_file g) →
     is_place vol (path_of id f) v (path_of id g) ≡ (same_file f g && eqb vol v)
 place_of_file id vol f v g valid is_f is_g = place_when (same_file f g) id vol f v g valid is_f is_g refl
 
-not_same : (f g : File) → IsTrue (is_file f) → is_file g ≡ false → (b : Bool) → same_file f g ≡ b → b ≡ false
+not_same : (f g : BlockFile) → IsTrue (is_file f) → is_file g ≡ false → (b : Bool) → same_file f g ≡ b → b ≡ false
 not_same f g is_f not_g true same =
     absurd (true≢false (sym is_f ∙ ap is_file (same_file-is f g same) ∙ not_g))
 not_same f g is_f not_g false same = refl
@@ -70,7 +73,7 @@ slot_when : (b : Bool) (slot old new : Slot) (same : Bool) → (b ≡ true → s
 slot_when true slot old new same at_file invalid = at_file refl
 slot_when false slot old new same at_file invalid = rw (invalid refl) refl
 
-module _ (id vol : ℕ) (f : File) (valid : IsBlockId id) (is : IsTrue (is_file f)) where
+module _ (id vol : ℕ) (f : BlockFile) (valid : IsBlockId id) (is : IsTrue (is_file f)) where
   view_changed : (world after : World) (slot : Slot) →
       ((v : ℕ) (p : List ℕ) → slot_at after v p ≡ cond (is_place vol (path_of id f) v p) slot (slot_at world v p)) →
       view_of after id ≡ set_slot (view_of world id) vol f slot
@@ -96,7 +99,7 @@ module _ (id vol : ℕ) (f : File) (valid : IsBlockId id) (is : IsTrue (is_file 
   view_settled world bytes = view_changed world (settled_at vol (path_of id f) bytes world) (holds bytes) (slot_settled vol (path_of id f) bytes world)
 
 -- a publish changes two slots: the draft goes, and its bytes are settled at the target
-pub view_published : (id vol : ℕ) (from target : File) → IsBlockId id → IsTrue (is_file from) → IsTrue (is_file target) →
+pub view_published : (id vol : ℕ) (from target : BlockFile) → IsBlockId id → IsTrue (is_file from) → IsTrue (is_file target) →
     (world : World) (number : ℕ) (bytes : List ℕ) →
     view_of (published (draft_at number vol (path_of id from)) bytes (path_of id target) world) id ≡ publish_in (view_of world id) vol from target bytes
 view_published id vol from target valid is_from is_target world number bytes =
@@ -112,7 +115,7 @@ same_when : (b : Bool) (slot old : Slot) → (b ≡ true → slot ≡ old) → (
 same_when true slot old same = same refl
 same_when false slot old same = refl
 
-module _ (id other vol : ℕ) (f : File) (valid : IsBlockId id) (other_valid : IsBlockId other) (differ : id ≢ other) (is : IsTrue (is_file f)) where
+module _ (id other vol : ℕ) (f : BlockFile) (valid : IsBlockId id) (other_valid : IsBlockId other) (differ : id ≢ other) (is : IsTrue (is_file f)) where
   view_kept : (world after : World) (slot : Slot) →
       ((v : ℕ) (p : List ℕ) → slot_at after v p ≡ cond (is_place vol (path_of id f) v p) slot (slot_at world v p)) →
       view_of after other ≡ view_of world other
@@ -138,7 +141,7 @@ module _ (id other vol : ℕ) (f : File) (valid : IsBlockId id) (other_valid : I
   other_settled world bytes = view_kept world (settled_at vol (path_of id f) bytes world) (holds bytes) (slot_settled vol (path_of id f) bytes world)
 
 -- and a publish
-pub other_published : (id other vol : ℕ) (from target : File) → IsBlockId id → IsBlockId other → id ≢ other →
+pub other_published : (id other vol : ℕ) (from target : BlockFile) → IsBlockId id → IsBlockId other → id ≢ other →
     IsTrue (is_file from) → IsTrue (is_file target) → (world : World) (number : ℕ) (bytes : List ℕ) →
     view_of (published (draft_at number vol (path_of id from)) bytes (path_of id target) world) other ≡ view_of world other
 other_published id other vol from target valid other_valid differ is_from is_target world number bytes =
@@ -150,7 +153,7 @@ other_published id other vol from target valid other_valid differ is_from is_tar
 slot_at_file : (b : Bool) (slot : Slot) → b ≡ true → (if b then slot else empty) ≡ slot
 slot_at_file b slot is = rw is refl
 
-module _ (world : World) (id vol : ℕ) (f : File) (is : IsTrue (is_file f)) where
+module _ (world : World) (id vol : ℕ) (f : BlockFile) (is : IsTrue (is_file f)) where
   -- the slot of a file is what stands at its place
   pub view_slot : view_of world id vol f ≡ slot_at world vol (path_of id f)
   unfolding view_of

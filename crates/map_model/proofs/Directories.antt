@@ -8,7 +8,10 @@ use Rattle.volume_layout.specs.Paths.{IsBlockId, IsStamp, block_name, meta_name,
 use Rattle.volume_layout.proofs.Reading.{digits_decimal, digit_is, is_digit, IsStamp-is_stamp}
 use Rattle.disk_model.specs.Files.{path_in}
 use Rattle.disk_model.specs.Worlds.{World, IsFileName, IsPresent, IsListing}
-use Rattle.map_model.specs.Slots.{File, block, meta, writing_block, writing_meta, temporary_block, temporary_meta, path_of, dir_of, name_of, is_file, is_standing, slot_at, view_of}
+use Rattle.volume_layout.specs.declared.block_file.BlockFile.{BlockFile}
+use Rattle.volume_layout.specs.declared.block_file.BlockFile.TheVariants.{Block, Meta, WritingBlock, WritingMeta, TemporaryBlock, TemporaryMeta}
+use Rattle.volume_layout.specs.BlockFiles.{path_of, dir_of, name_of, is_file}
+use Rattle.map_model.specs.Slots.{is_standing, slot_at, view_of}
 use Rattle.map_model.proofs.Places.{bare_absent, absent_empty}
 use Rattle.map_model.proofs.Bridge.{view_slot}
 
@@ -16,14 +19,14 @@ with_slash : (dir name : List ℕ) → dir ++ 47 ∷ name ≡ dir ++ codes "/" +
 with_slash dir name = sym (append_assoc dir (codes "/") name)
 
 -- the path of a file is its name in its directory
-pub path_in_own_dir : (id : ℕ) (f : File) → path_in (dir_of id f) (name_of id f) ≡ path_of id f
+pub path_in_own_dir : (id : ℕ) (f : BlockFile) → path_in (dir_of id f) (name_of id f) ≡ path_of id f
 unfolding block_path meta_path rbw_block rbw_meta tmp_block tmp_meta
-path_in_own_dir id block = with_slash (own_dir id) (block_name id)
-path_in_own_dir id (meta s) = with_slash (own_dir id) (meta_name id s)
-path_in_own_dir id writing_block = refl
-path_in_own_dir id (writing_meta s) = refl
-path_in_own_dir id temporary_block = refl
-path_in_own_dir id (temporary_meta s) = refl
+path_in_own_dir id Block = with_slash (own_dir id) (block_name id)
+path_in_own_dir id (Meta s) = with_slash (own_dir id) (meta_name id s)
+path_in_own_dir id WritingBlock = refl
+path_in_own_dir id (WritingMeta s) = refl
+path_in_own_dir id TemporaryBlock = refl
+path_in_own_dir id (TemporaryMeta s) = refl
 
 -- the same by the two numbers of the block's own directory, and by the directories of files that aren't finalised
 pub own_dir_is : (id : ℕ) → own_dir id ≡ dir_path (id / 65536 % 32) (id / 256 % 32)
@@ -31,22 +34,22 @@ unfolding own_dir
 own_dir_is id = refl
 
 pub path_in-block_path : (id : ℕ) → path_in (dir_path (id / 65536 % 32) (id / 256 % 32)) (block_name id) ≡ block_path id
-path_in-block_path id = ap (λ dir. path_in dir (block_name id)) (sym (own_dir_is id)) ∙ path_in_own_dir id block
+path_in-block_path id = ap (λ dir. path_in dir (block_name id)) (sym (own_dir_is id)) ∙ path_in_own_dir id Block
 
 pub path_in-meta_path : (id stamp : ℕ) → path_in (dir_path (id / 65536 % 32) (id / 256 % 32)) (meta_name id stamp) ≡ meta_path id stamp
-path_in-meta_path id stamp = ap (λ dir. path_in dir (meta_name id stamp)) (sym (own_dir_is id)) ∙ path_in_own_dir id (meta stamp)
+path_in-meta_path id stamp = ap (λ dir. path_in dir (meta_name id stamp)) (sym (own_dir_is id)) ∙ path_in_own_dir id (Meta stamp)
 
 pub path_in-rbw_block : (id : ℕ) → path_in (codes "current/rbw") (block_name id) ≡ rbw_block id
-path_in-rbw_block id = path_in_own_dir id writing_block
+path_in-rbw_block id = path_in_own_dir id WritingBlock
 
 pub path_in-rbw_meta : (id stamp : ℕ) → path_in (codes "current/rbw") (meta_name id stamp) ≡ rbw_meta id stamp
-path_in-rbw_meta id stamp = path_in_own_dir id (writing_meta stamp)
+path_in-rbw_meta id stamp = path_in_own_dir id (WritingMeta stamp)
 
 pub path_in-tmp_block : (id : ℕ) → path_in (codes "tmp") (block_name id) ≡ tmp_block id
-path_in-tmp_block id = path_in_own_dir id temporary_block
+path_in-tmp_block id = path_in_own_dir id TemporaryBlock
 
 pub path_in-tmp_meta : (id stamp : ℕ) → path_in (codes "tmp") (meta_name id stamp) ≡ tmp_meta id stamp
-path_in-tmp_meta id stamp = path_in_own_dir id (temporary_meta stamp)
+path_in-tmp_meta id stamp = path_in_own_dir id (TemporaryMeta stamp)
 
 -- ---- names of files
 
@@ -100,13 +103,13 @@ meta_name_is id stamp valid stamped = record {
 }
 
 -- the name of a file is one
-pub name_of_is : (id : ℕ) (f : File) → IsBlockId id → IsTrue (is_file f) → IsFileName (name_of id f)
-name_of_is id block valid is = block_name_is id valid
-name_of_is id (meta s) valid is = meta_name_is id s valid (IsStamp-is_stamp s is)
-name_of_is id writing_block valid is = block_name_is id valid
-name_of_is id (writing_meta s) valid is = meta_name_is id s valid (IsStamp-is_stamp s is)
-name_of_is id temporary_block valid is = block_name_is id valid
-name_of_is id (temporary_meta s) valid is = meta_name_is id s valid (IsStamp-is_stamp s is)
+pub name_of_is : (id : ℕ) (f : BlockFile) → IsBlockId id → IsTrue (is_file f) → IsFileName (name_of id f)
+name_of_is id Block valid is = block_name_is id valid
+name_of_is id (Meta s) valid is = meta_name_is id s valid (IsStamp-is_stamp s is)
+name_of_is id WritingBlock valid is = block_name_is id valid
+name_of_is id (WritingMeta s) valid is = meta_name_is id s valid (IsStamp-is_stamp s is)
+name_of_is id TemporaryBlock valid is = block_name_is id valid
+name_of_is id (TemporaryMeta s) valid is = meta_name_is id s valid (IsStamp-is_stamp s is)
 
 -- ---- a listing shows which files of a block stand
 
@@ -124,7 +127,7 @@ listed_standing world vol dir name names listing has =
     true_from_ne_false (is_standing (slot_at world vol (path_in dir name)))
     (λ bare. present.stands (bare_absent world vol (path_in dir name) bare))
 
-module _ (world : World) (id vol : ℕ) (f : File) (names : List (List ℕ)) (valid : IsBlockId id) (is : IsTrue (is_file f)) (listing : IsListing world vol (dir_of id f) names) where
+module _ (world : World) (id vol : ℕ) (f : BlockFile) (names : List (List ℕ)) (valid : IsBlockId id) (is : IsTrue (is_file f)) (listing : IsListing world vol (dir_of id f) names) where
   slot_named : view_of world id vol f ≡ slot_at world vol (path_in (dir_of id f) (name_of id f))
   slot_named = view_slot world id vol f is ∙ ap (λ path. slot_at world vol path) (sym (path_in_own_dir id f))
 

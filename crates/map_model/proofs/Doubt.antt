@@ -5,7 +5,9 @@ use Rattle.std.proofs.lemmas.Bool.{cases_eq}
 use Rattle.std.proofs.lemmas.Option.{same_Some}
 use Rattle.map_model.specs.Cells.{Replica, Cell, unsure}
 use Rattle.map_model.specs.Copies.{own_spot, IsCopy, ReadsAs}
-use Rattle.map_model.specs.Slots.{File, block, meta, writing_block, writing_meta, temporary_block, temporary_meta, Slot, empty, holds, drafted, is_standing, bytes_in, View, files_in}
+use Rattle.volume_layout.specs.declared.block_file.BlockFile.{BlockFile}
+use Rattle.volume_layout.specs.declared.block_file.BlockFile.TheVariants.{Block, Meta, WritingBlock, WritingMeta, TemporaryBlock, TemporaryMeta}
+use Rattle.map_model.specs.Slots.{Slot, empty, holds, drafted, is_standing, bytes_in, View, files_in}
 use Rattle.map_model.specs.Stands.{Base, is_final, is_written, in_doubt, is_waiting, Entry, Leftover, Ticket, StateNames, IsListed, Each, LeftoverFits, HasOwnLeftovers, MayBeLeft, IsFinalised, ReadsAsEither, TicketStands, BlockStands}
 use Rattle.map_model.specs.Tenures.{IsNew, books_of, Writer, writer_entry}
 use Rattle.map_model.proofs.OneReading.{IsCopy-unique, reads_only_copy}
@@ -18,25 +20,25 @@ use Rattle.map_model.proofs.Waiting.{unwanted_ticket}
 -- a copy that stands matches its meta
 abbrev pub CopiesMatch : (List ℕ → Replica → Type 0) → View → Type 0
 CopiesMatch M view = (vol : ℕ) (replica : Replica) (content : List ℕ) → IsCopy (files_in view) (own_spot vol) replica →
-    view vol (meta replica.stamp) ≡ holds content → M content replica
+    view vol (Meta replica.stamp) ≡ holds content → M content replica
 
 abbrev pub NoBlock : View → Type 0
-NoBlock view = (vol : ℕ) → IsTrue (is_standing (view vol block)) → ⊥
+NoBlock view = (vol : ℕ) → IsTrue (is_standing (view vol Block)) → ⊥
 
 pub nothing_read : (view : View) → NoBlock view → ReadsAs (files_in view) None
 nothing_read view none = reads_nothing (files_in view) (no_pair_files view (λ vol stamp b m. none vol b))
 
 pub nothing_copied : (M : List ℕ → Replica → Type 0) (view : View) → NoBlock view → CopiesMatch M view
 nothing_copied M view none vol replica content copy is =
-    absurd (none vol (bytes-standing (view vol block) (ap is_some copy.block)))
+    absurd (none vol (bytes-standing (view vol Block) (ap is_some copy.block)))
 
 -- the block file stands on one volume only, with a copy there
 pub record OneCopy (M : List ℕ → Replica → Type 0) (view : View) (vol : ℕ) (replica : Replica) : Type 0 where
   pub copy : IsCopy (files_in view) (own_spot vol) replica
   pub content : List ℕ
-  pub meta_file : view vol (meta replica.stamp) ≡ holds content
+  pub meta_file : view vol (Meta replica.stamp) ≡ holds content
   pub matches : M content replica
-  pub elsewhere : (v : ℕ) → v ≢ vol → IsTrue (is_standing (view v block)) → ⊥
+  pub elsewhere : (v : ℕ) → v ≢ vol → IsTrue (is_standing (view v Block)) → ⊥
 
 none_in : (slot : Slot) → (IsTrue (is_standing slot) → ⊥) → bytes_in slot ≡ None
 none_in empty gone = refl
@@ -46,7 +48,7 @@ none_in (drafted number) gone = refl
 pub one_read : (M : List ℕ → Replica → Type 0) (view : View) (vol : ℕ) (replica : Replica) → OneCopy M view vol replica → ReadsAs (files_in view) (Some replica)
 one_read M view vol replica one =
     reads_only_copy (files_in view) (own_spot vol) replica one.copy
-    (λ other away. none_in (view other.vol block) (one.elsewhere other.vol (λ e. away (ap own_spot e))))
+    (λ other away. none_in (view other.vol Block) (one.elsewhere other.vol (λ e. away (ap own_spot e))))
 
 pub one_copied : (M : List ℕ → Replica → Type 0) (view : View) (vol : ℕ) (replica : Replica) → OneCopy M view vol replica → CopiesMatch M view
 one_copied M view vol replica one v other content copy is =
@@ -54,14 +56,14 @@ one_copied M view vol replica one v other content copy is =
       | inl here ↦
           let P : ℕ → Type 0 = λ n. IsCopy (files_in view) (own_spot n) other in
           let it : other ≡ replica = IsCopy-unique (files_in view) (own_spot vol) other replica (subst P here copy) one.copy in
-          let Q : ℕ → Type 0 = λ n. view n (meta other.stamp) ≡ holds content in
-          let R : Replica → Type 0 = λ r. view vol (meta r.stamp) ≡ holds content in
-          let found : view vol (meta replica.stamp) ≡ holds content = subst R it (subst Q here is) in
+          let Q : ℕ → Type 0 = λ n. view n (Meta other.stamp) ≡ holds content in
+          let R : Replica → Type 0 = λ r. view vol (Meta r.stamp) ≡ holds content in
+          let found : view vol (Meta replica.stamp) ≡ holds content = subst R it (subst Q here is) in
           let same : Some one.content ≡ Some content = ap bytes_in (sym one.meta_file ∙ found) in
           let S : List ℕ → Type 0 = λ c. M c replica in
           let T : Replica → Type 0 = λ r. M content r in
           subst T (sym it) (subst S (same_Some one.content content same) one.matches)
-      | inr away ↦ absurd (one.elsewhere v away (bytes-standing (view v block) (ap is_some copy.block)))
+      | inr away ↦ absurd (one.elsewhere v away (bytes-standing (view v Block) (ap is_some copy.block)))
     ]
 
 -- an entry none of whose leftovers is its own
@@ -72,13 +74,13 @@ waiting_own : (entry : Option Entry) → IsSomeAnd entry (λ e. e.state ≡ is_w
 waiting_own None is = is
 waiting_own (Some e) is = subst HasOwnLeftovers (sym is) tt
 
-refit_place : (entry after : Option Entry) (f : File) → IsTidy entry → MayBeLeft entry f → MayBeLeft after f
-refit_place entry after block tidy may = absurd (tidy may)
-refit_place entry after (meta s) tidy may = absurd (tidy may)
-refit_place entry after writing_block tidy may = absurd (tidy may)
-refit_place entry after (writing_meta s) tidy may = absurd (tidy may)
-refit_place entry after temporary_block tidy may = tt
-refit_place entry after (temporary_meta s) tidy may = tt
+refit_place : (entry after : Option Entry) (f : BlockFile) → IsTidy entry → MayBeLeft entry f → MayBeLeft after f
+refit_place entry after Block tidy may = absurd (tidy may)
+refit_place entry after (Meta s) tidy may = absurd (tidy may)
+refit_place entry after WritingBlock tidy may = absurd (tidy may)
+refit_place entry after (WritingMeta s) tidy may = absurd (tidy may)
+refit_place entry after TemporaryBlock tidy may = tt
+refit_place entry after (TemporaryMeta s) tidy may = tt
 
 refit : (entry after : Option Entry) (leftover : Leftover) → IsTidy entry → LeftoverFits entry leftover → LeftoverFits after leftover
 refit entry after leftover tidy fits = record {
@@ -93,16 +95,16 @@ refit_all entry after [] tidy each = tt
 refit_all entry after (leftover ∷ rest) tidy each = (refit entry after leftover tidy each.0, refit_all entry after rest tidy each.1)
 
 -- and are a move's files
-own_left : (entry : Option Entry) (f : File) → IsTidy entry → MayBeLeft entry f → IsOwn f → ⊥
-own_left entry block tidy may own = tidy may
-own_left entry (meta s) tidy may own = tidy may
-own_left entry writing_block tidy may own = tidy may
-own_left entry (writing_meta s) tidy may own = tidy may
-own_left entry temporary_block tidy may own = own
-own_left entry (temporary_meta s) tidy may own = own
+own_left : (entry : Option Entry) (f : BlockFile) → IsTidy entry → MayBeLeft entry f → IsOwn f → ⊥
+own_left entry Block tidy may own = tidy may
+own_left entry (Meta s) tidy may own = tidy may
+own_left entry WritingBlock tidy may own = tidy may
+own_left entry (WritingMeta s) tidy may own = tidy may
+own_left entry TemporaryBlock tidy may own = own
+own_left entry (TemporaryMeta s) tidy may own = own
 
 pub tidy_listed : (entry : Option Entry) (leftovers : List Leftover) → IsTidy entry → Each (LeftoverFits entry) leftovers →
-    (v : ℕ) (f : File) → IsListed leftovers v f → IsOwn f → ⊥
+    (v : ℕ) (f : BlockFile) → IsListed leftovers v f → IsOwn f → ⊥
 tidy_listed entry leftovers tidy each v f listed own =
     let one = each_listed (LeftoverFits entry) leftovers v f each listed in
     own_left entry f tidy (subst (λ g. MayBeLeft entry g) one.3 one.1.place) own
@@ -115,35 +117,35 @@ written_unwanted view leftovers (Some t) writer base stands = λ same. (stands.w
 
 -- the drafts of a move stay where the move's files do
 pub moved_same : (before after : View) (entry : Option Entry) (leftovers rest : List Leftover) (ticket : Option Ticket) →
-    ((v : ℕ) (f : File) → (IsOwn f → ⊥) → after v f ≡ before v f) →
+    ((v : ℕ) (f : BlockFile) → (IsOwn f → ⊥) → after v f ≡ before v f) →
     IfSome ticket (λ t. TicketStands before entry leftovers t) → IfSome ticket (λ t. TicketStands after None rest t)
 moved_same before after entry leftovers rest None same stands = tt
 moved_same before after entry leftovers rest (Some t) same stands = record {
-  block_draft = same t.dest temporary_block (λ own. own) ∙ stands.block_draft;
-  meta_draft = same t.dest (temporary_meta t.stamp) (λ own. own) ∙ stands.meta_draft;
+  block_draft = same t.dest TemporaryBlock (λ own. own) ∙ stands.block_draft;
+  meta_draft = same t.dest (TemporaryMeta t.stamp) (λ own. own) ∙ stands.meta_draft;
   wanted = tt;
 }
 
-written_doubt : (base : Option Base) (m n stamp : ℕ) (f : File) → StateNames (is_written base m n) stamp f → StateNames (in_doubt base) stamp f
-written_doubt base m n stamp block names = tt
-written_doubt base m n stamp (meta s) names = inr names
-written_doubt base m n stamp writing_block names = tt
-written_doubt base m n stamp (writing_meta s) names = names
-written_doubt base m n stamp temporary_block names = names
-written_doubt base m n stamp (temporary_meta s) names = names
+written_doubt : (base : Option Base) (m n stamp : ℕ) (f : BlockFile) → StateNames (is_written base m n) stamp f → StateNames (in_doubt base) stamp f
+written_doubt base m n stamp Block names = tt
+written_doubt base m n stamp (Meta s) names = inr names
+written_doubt base m n stamp WritingBlock names = tt
+written_doubt base m n stamp (WritingMeta s) names = names
+written_doubt base m n stamp TemporaryBlock names = names
+written_doubt base m n stamp (TemporaryMeta s) names = names
 
-pub doubt_own : (base : Option Base) (stamp : ℕ) (f : File) → StateNames (in_doubt base) stamp f → IsOwn f
-doubt_own base stamp block names = tt
-doubt_own base stamp (meta s) names = tt
-doubt_own base stamp writing_block names = tt
-doubt_own base stamp (writing_meta s) names = tt
-doubt_own base stamp temporary_block names = names
-doubt_own base stamp (temporary_meta s) names = names
+pub doubt_own : (base : Option Base) (stamp : ℕ) (f : BlockFile) → StateNames (in_doubt base) stamp f → IsOwn f
+doubt_own base stamp Block names = tt
+doubt_own base stamp (Meta s) names = tt
+doubt_own base stamp WritingBlock names = tt
+doubt_own base stamp (WritingMeta s) names = tt
+doubt_own base stamp TemporaryBlock names = names
+doubt_own base stamp (TemporaryMeta s) names = names
 
 -- a writer's block of which only files changed that an unsure entry names
 pub record Doubts (M : List ℕ → Replica → Type 0) (before after : View) (writer : Writer) (base : Option Base) (x y : Option Replica) (cut : Bool) : Type 0 where
-  pub slots : (v : ℕ) (f : File) → (after v f ≡ before v f) ⊎ ((writer.vol ≡ v) × StateNames (in_doubt base) writer.stamp f)
-  pub settled : (v : ℕ) (f : File) (number : ℕ) → IsFinalised f → after v f ≡ drafted number → ⊥
+  pub slots : (v : ℕ) (f : BlockFile) → (after v f ≡ before v f) ⊎ ((writer.vol ≡ v) × StateNames (in_doubt base) writer.stamp f)
+  pub settled : (v : ℕ) (f : BlockFile) (number : ℕ) → IsFinalised f → after v f ≡ drafted number → ⊥
   pub content : ReadsAsEither M after x y cut
 
 pub doubts_stands : (M : List ℕ → Replica → Type 0) (before after : View) (leftovers : List Leftover) (ticket : Option Ticket) (writer : Writer)
@@ -179,10 +181,10 @@ doubts_stands M before after leftovers ticket writer base x y cut cell doubts st
           stands.ticket);
     }
 
-pub final_own : (stamp : ℕ) (f : File) → StateNames is_final stamp f → IsOwn f
-final_own stamp block names = tt
-final_own stamp (meta s) names = tt
-final_own stamp writing_block names = tt
-final_own stamp (writing_meta s) names = tt
-final_own stamp temporary_block names = names
-final_own stamp (temporary_meta s) names = names
+pub final_own : (stamp : ℕ) (f : BlockFile) → StateNames is_final stamp f → IsOwn f
+final_own stamp Block names = tt
+final_own stamp (Meta s) names = tt
+final_own stamp WritingBlock names = tt
+final_own stamp (WritingMeta s) names = tt
+final_own stamp TemporaryBlock names = names
+final_own stamp (TemporaryMeta s) names = names

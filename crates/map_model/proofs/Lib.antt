@@ -27,4 +27,3 @@ pub mod MoveFiles
 pub mod Move
 pub mod Publish
 pub mod Moments
-pub mod ChecksumProofs

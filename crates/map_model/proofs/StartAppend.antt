@@ -5,7 +5,9 @@ use Rattle.std.proofs.lemmas.Bool.{false≢true}
 use Rattle.volume_layout.specs.Paths.{IsStamp}
 use Rattle.volume_layout.proofs.Reading.{is_stamp-IsStamp}
 use Rattle.map_model.specs.Cells.{Replica, Cell, final, growing}
-use Rattle.map_model.specs.Slots.{File, block, meta, writing_block, writing_meta, temporary_block, temporary_meta, drafted, View}
+use Rattle.volume_layout.specs.declared.block_file.BlockFile.{BlockFile}
+use Rattle.volume_layout.specs.declared.block_file.BlockFile.TheVariants.{Block, Meta, WritingBlock, WritingMeta, TemporaryBlock, TemporaryMeta}
+use Rattle.map_model.specs.Slots.{drafted, View}
 use Rattle.map_model.specs.Stands.{EntryState, is_final, is_written, Entry, Leftover, Ticket, BlockBooks, StateNames, IsListed, Each, LeftoverFits, HasOwnLeftovers, IsFinalised, PairStands, WriterStands, Wanted, TicketStands, BlockStands}
 use Rattle.map_model.specs.Tenures.{IsNew, books_of, Writer, writer_entry, block_left, meta_left, refused_block, base_of_entry, block_created, both_created, StartsAppend}
 use Rattle.map_model.specs.Tenures.StartsAppend.{started, refused, block_failed, meta_failed, meta_memory}
@@ -14,25 +16,25 @@ use Rattle.map_model.proofs.Shrinks.{shrunk_told}
 use Rattle.map_model.proofs.Waiting.{IsWriting, unwanted_ticket}
 use Rattle.map_model.proofs.StartWrite.{Adds, adds_finalised, adds_ticket, none_left, writing_named, adds_none, adds_block, adds_block_two, adds_both}
 
-final_finalised : (stamp : ℕ) (f : File) → StateNames is_final stamp f → IsFinalised f
-final_finalised stamp block names = tt
-final_finalised stamp (meta s) names = tt
-final_finalised stamp writing_block names = names
-final_finalised stamp (writing_meta s) names = names
-final_finalised stamp temporary_block names = names
-final_finalised stamp (temporary_meta s) names = names
+final_finalised : (stamp : ℕ) (f : BlockFile) → StateNames is_final stamp f → IsFinalised f
+final_finalised stamp Block names = tt
+final_finalised stamp (Meta s) names = tt
+final_finalised stamp WritingBlock names = names
+final_finalised stamp (WritingMeta s) names = names
+final_finalised stamp TemporaryBlock names = names
+final_finalised stamp (TemporaryMeta s) names = names
 
-writing_not_final : (f : File) → IsWriting f → IsFinalised f → ⊥
-writing_not_final block is it = is
-writing_not_final (meta s) is it = is
-writing_not_final writing_block is it = it
-writing_not_final (writing_meta s) is it = it
-writing_not_final temporary_block is it = is
-writing_not_final (temporary_meta s) is it = is
+writing_not_final : (f : BlockFile) → IsWriting f → IsFinalised f → ⊥
+writing_not_final Block is it = is
+writing_not_final (Meta s) is it = is
+writing_not_final WritingBlock is it = it
+writing_not_final (WritingMeta s) is it = it
+writing_not_final TemporaryBlock is it = is
+writing_not_final (TemporaryMeta s) is it = is
 
 -- the names of the leftovers don't matter to what was added
-adds_named : (view after : View) (leftovers rest : List Leftover) → ((v : ℕ) (f : File) → IsListed leftovers v f → IsListed rest v f) →
-    ((v : ℕ) (f : File) → IsListed rest v f → IsListed leftovers v f) → Adds view after leftovers → Adds view after rest
+adds_named : (view after : View) (leftovers rest : List Leftover) → ((v : ℕ) (f : BlockFile) → IsListed leftovers v f → IsListed rest v f) →
+    ((v : ℕ) (f : BlockFile) → IsListed rest v f → IsListed leftovers v f) → Adds view after leftovers → Adds view after rest
 adds_named view after leftovers rest there back adds = record {
   slots = λ v f. elim (adds.slots v f) [ inl same ↦ inl same | inr new ↦ inr (new.0, there v f new.1) ];
   only = λ v f listed. adds.only v f (back v f listed);
@@ -40,18 +42,18 @@ adds_named view after leftovers rest there back adds = record {
 
 module _ (M : List ℕ → Replica → Type 0) (view after : View) (ticket : Option Ticket) (entry : Entry) (replica : Replica) (leftovers : List Leftover)
     (stands : BlockStands M view (books_of (Some entry) [] ticket) (final replica)) (adds : Adds view after leftovers) where
-  entry_finalised : (f : File) → StateNames entry.state entry.stamp f → IsFinalised f
+  entry_finalised : (f : BlockFile) → StateNames entry.state entry.stamp f → IsFinalised f
   entry_finalised f names = final_finalised entry.stamp f (subst (λ s. StateNames s entry.stamp f) stands.agrees.0 names)
 
   same_pair : PairStands M after entry.vol replica
   same_pair = record {
-    block_file = adds_finalised view after leftovers adds entry.vol block tt ∙ stands.content.0.block_file;
+    block_file = adds_finalised view after leftovers adds entry.vol Block tt ∙ stands.content.0.block_file;
     content = stands.content.0.content;
-    meta_file = adds_finalised view after leftovers adds entry.vol (meta replica.stamp) tt ∙ stands.content.0.meta_file;
+    meta_file = adds_finalised view after leftovers adds entry.vol (Meta replica.stamp) tt ∙ stands.content.0.meta_file;
     matches = stands.content.0.matches;
   }
 
-  added_ticket : ((v : ℕ) (f : File) → IsListed leftovers v f → v ≡ entry.vol) → IfSome ticket (λ t. TicketStands after (Some entry) leftovers t)
+  added_ticket : ((v : ℕ) (f : BlockFile) → IsListed leftovers v f → v ≡ entry.vol) → IfSome ticket (λ t. TicketStands after (Some entry) leftovers t)
   added_ticket on_vol = tickets ticket stands.ticket where
     tickets : (o : Option Ticket) → IfSome o (λ t. TicketStands view (Some entry) [] t) → IfSome o (λ t. TicketStands after (Some entry) leftovers t)
     tickets None has = tt
@@ -72,7 +74,7 @@ module _ (M : List ℕ → Replica → Type 0) (view after : View) (ticket : Opt
         }
 
   -- a start that was refused: its files are leftovers
-  refused_stands : ((v : ℕ) (f : File) → IsListed leftovers v f → v ≡ entry.vol) → Each (LeftoverFits (Some entry)) leftovers →
+  refused_stands : ((v : ℕ) (f : BlockFile) → IsListed leftovers v f → v ≡ entry.vol) → Each (LeftoverFits (Some entry)) leftovers →
       BlockStands M after (books_of (Some entry) leftovers ticket) (final replica)
   refused_stands on_vol fits = record {
     agrees = stands.agrees;
@@ -109,11 +111,11 @@ module _ (M : List ℕ → Replica → Type 0) (view : View) (ticket : Option Ti
   fits_other : LeftoverFits (Some entry) (meta_left writer false)
   fits_other = record { valid = is_stamp-IsStamp writer.stamp stamped; held = λ h. absurd (false≢true h); place = own_left }
 
-  one_vol : (v : ℕ) (f : File) → IsListed (refused_block writer ∷ []) v f → v ≡ entry.vol
+  one_vol : (v : ℕ) (f : BlockFile) → IsListed (refused_block writer ∷ []) v f → v ≡ entry.vol
   one_vol v f (inl here) = sym here.0 ∙ same_vol
   one_vol v f (inr later) = absurd later
 
-  two_vol : (v : ℕ) (f : File) → IsListed (refused_block writer ∷ meta_left writer false ∷ []) v f → v ≡ entry.vol
+  two_vol : (v : ℕ) (f : BlockFile) → IsListed (refused_block writer ∷ meta_left writer false ∷ []) v f → v ≡ entry.vol
   two_vol v f (inl here) = sym here.0 ∙ same_vol
   two_vol v f (inr (inl here)) = sym here.0 ∙ same_vol
   two_vol v f (inr (inr later)) = absurd later
@@ -130,14 +132,14 @@ module _ (M : List ℕ → Replica → Type 0) (view : View) (ticket : Option Ti
       (adds_named view after (block_left writer true ∷ meta_left writer true ∷ []) (refused_block writer ∷ meta_left writer false ∷ []) (λ v f listed. listed) (λ v f listed. listed) adds)
       two_vol (fits_one, (fits_other, tt))
 
-  named_by_writer : (f : File) → StateNames is_final entry.stamp f →
+  named_by_writer : (f : BlockFile) → StateNames is_final entry.stamp f →
       StateNames (is_written (Some (base_of_entry entry)) writer.block_number writer.meta_number) writer.stamp f
-  named_by_writer block names = tt
-  named_by_writer (meta s) names = names
-  named_by_writer writing_block names = absurd names
-  named_by_writer (writing_meta s) names = absurd names
-  named_by_writer temporary_block names = absurd names
-  named_by_writer (temporary_meta s) names = absurd names
+  named_by_writer Block names = tt
+  named_by_writer (Meta s) names = names
+  named_by_writer WritingBlock names = absurd names
+  named_by_writer (WritingMeta s) names = absurd names
+  named_by_writer TemporaryBlock names = absurd names
+  named_by_writer (TemporaryMeta s) names = absurd names
 
   none_wanted : (o : Option Ticket) → IfSome o (λ t. TicketStands view (Some entry) [] t) → IfSome o (λ t. TicketStands view None [] t)
   none_wanted None has = tt
@@ -169,8 +171,8 @@ module _ (M : List ℕ → Replica → Type 0) (view : View) (ticket : Option Ti
         settled = λ v f number is drafts. stands.settled v f number is (sym (adds_finalised view both two adds v f is) ∙ drafts);
         stamp = (stamped, stands.stamp.0);
         writer = (
-          set_slot-here view writer.vol writing_block (drafted writer.block_number),
-          set_slot-here (block_created view writer) writer.vol (writing_meta writer.stamp) (drafted writer.meta_number),
+          set_slot-here view writer.vol WritingBlock (drafted writer.block_number),
+          set_slot-here (block_created view writer) writer.vol (WritingMeta writer.stamp) (drafted writer.meta_number),
         );
         ticket = unwanted_ticket both (writer_entry writer state) [] ticket new
             (none_left view both ticket two adds (none_wanted ticket stands.ticket));

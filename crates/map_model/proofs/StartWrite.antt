@@ -5,7 +5,9 @@ use Rattle.volume_layout.specs.Paths.{IsStamp}
 use Rattle.volume_layout.proofs.Reading.{is_stamp-IsStamp}
 use Rattle.map_model.specs.Cells.{Replica, Cell, absent, growing, waiting}
 use Rattle.map_model.specs.Allows.{AllowsFiles}
-use Rattle.map_model.specs.Slots.{File, block, meta, writing_block, writing_meta, temporary_block, temporary_meta, drafted, is_standing, View, files_in}
+use Rattle.volume_layout.specs.declared.block_file.BlockFile.{BlockFile}
+use Rattle.volume_layout.specs.declared.block_file.BlockFile.TheVariants.{Block, Meta, WritingBlock, WritingMeta, TemporaryBlock, TemporaryMeta}
+use Rattle.map_model.specs.Slots.{drafted, is_standing, View, files_in}
 use Rattle.map_model.specs.Stands.{is_written, is_waiting, Entry, Leftover, Ticket, BlockBooks, StateNames, MoveNames, Names, IsListed, Each, LeftoverFits, IsFinalised, TicketStands, BlockStands}
 use Rattle.map_model.specs.Tenures.{IsNew, books_of, Writer, writer_entry, block_left, meta_left, block_created, both_created, StartsWrite, started, block_failed, block_memory, meta_failed, meta_memory}
 use Rattle.map_model.proofs.SlotLemmas.{set_slot-cases, set_slot-here, standing-by}
@@ -15,32 +17,32 @@ use Rattle.map_model.proofs.Waiting.{IsWriting, waits_stands, unwanted_ticket, r
 
 -- the view has at most these leftovers more, all of them a writer's files
 pub record Adds (before after : View) (leftovers : List Leftover) : Type 0 where
-  pub slots : (v : ℕ) (f : File) → (after v f ≡ before v f) ⊎ (IsWriting f × IsListed leftovers v f)
-  pub only : (v : ℕ) (f : File) → IsListed leftovers v f → IsWriting f
+  pub slots : (v : ℕ) (f : BlockFile) → (after v f ≡ before v f) ⊎ (IsWriting f × IsListed leftovers v f)
+  pub only : (v : ℕ) (f : BlockFile) → IsListed leftovers v f → IsWriting f
 
-writing_moved : (stamp : ℕ) (f : File) → IsWriting f → MoveNames stamp f → ⊥
-writing_moved stamp block is names = names
-writing_moved stamp (meta s) is names = names
-writing_moved stamp writing_block is names = names
-writing_moved stamp (writing_meta s) is names = names
-writing_moved stamp temporary_block is names = is
-writing_moved stamp (temporary_meta s) is names = is
+writing_moved : (stamp : ℕ) (f : BlockFile) → IsWriting f → MoveNames stamp f → ⊥
+writing_moved stamp Block is names = names
+writing_moved stamp (Meta s) is names = names
+writing_moved stamp WritingBlock is names = names
+writing_moved stamp (WritingMeta s) is names = names
+writing_moved stamp TemporaryBlock is names = is
+writing_moved stamp (TemporaryMeta s) is names = is
 
-pub writing_named : (ticket : Option Ticket) (v : ℕ) (f : File) → IsWriting f → Names None ticket v f → ⊥
+pub writing_named : (ticket : Option Ticket) (v : ℕ) (f : BlockFile) → IsWriting f → Names None ticket v f → ⊥
 writing_named ticket v f is (inl names) = names
 writing_named None v f is (inr names) = names
 writing_named (Some t) v f is (inr names) = writing_moved t.stamp f is names.1
 
-writing_finalised : (f : File) → IsWriting f → IsFinalised f → ⊥
-writing_finalised block is final = is
-writing_finalised (meta s) is final = is
-writing_finalised writing_block is final = final
-writing_finalised (writing_meta s) is final = final
-writing_finalised temporary_block is final = is
-writing_finalised (temporary_meta s) is final = is
+writing_finalised : (f : BlockFile) → IsWriting f → IsFinalised f → ⊥
+writing_finalised Block is final = is
+writing_finalised (Meta s) is final = is
+writing_finalised WritingBlock is final = final
+writing_finalised (WritingMeta s) is final = final
+writing_finalised TemporaryBlock is final = is
+writing_finalised (TemporaryMeta s) is final = is
 
 -- a finalised file is as before
-pub adds_finalised : (before after : View) (leftovers : List Leftover) → Adds before after leftovers → (v : ℕ) (f : File) → IsFinalised f → after v f ≡ before v f
+pub adds_finalised : (before after : View) (leftovers : List Leftover) → Adds before after leftovers → (v : ℕ) (f : BlockFile) → IsFinalised f → after v f ≡ before v f
 adds_finalised before after leftovers adds v f is =
     elim (adds.slots v f) [
       | inl same ↦ same
@@ -51,11 +53,11 @@ pub adds_ticket : (before after : View) (leftovers : List Leftover) (ticket : Op
     IfSome ticket (λ t. TicketStands before None [] t) → IfSome ticket (λ t. TicketStands after None leftovers t)
 adds_ticket before after leftovers None adds stands = tt
 adds_ticket before after leftovers (Some t) adds stands = record {
-  block_draft = elim (adds.slots t.dest temporary_block) [
+  block_draft = elim (adds.slots t.dest TemporaryBlock) [
     | inl same ↦ same ∙ stands.block_draft
     | inr new ↦ absurd new.0
   ];
-  meta_draft = elim (adds.slots t.dest (temporary_meta t.stamp)) [
+  meta_draft = elim (adds.slots t.dest (TemporaryMeta t.stamp)) [
     | inl same ↦ same ∙ stands.meta_draft
     | inr new ↦ absurd new.0
   ];
@@ -72,9 +74,9 @@ start_waits M before after ticket writer leftovers stands stamped new adds fits 
       state = refl;
       stamp = stamped;
       none = λ vol stamp b m.
-          let stood : IsTrue (is_standing (before vol block)) =
-          standing-by (before vol block) (after vol block) (sym (adds_finalised before after leftovers adds vol block tt)) b in
-          absurd (own_file M before (books_of None [] ticket) absent stands vol block tt stood);
+          let stood : IsTrue (is_standing (before vol Block)) =
+          standing-by (before vol Block) (after vol Block) (sym (adds_finalised before after leftovers adds vol Block tt)) b in
+          absurd (own_file M before (books_of None [] ticket) absent stands vol Block tt stood);
       accounted = λ v f there. elim (adds.slots v f) [
         | inl same ↦ elim (stands.accounted v f (standing-by (before v f) (after v f) (sym same) there)) [
           | inl names ↦ inl names
@@ -89,18 +91,18 @@ start_waits M before after ticket writer leftovers stands stamped new adds fits 
       unwanted = new;
     })
 
-pub at_writing : (f g : File) → f ≡ g → IsWriting f → IsWriting g
+pub at_writing : (f g : BlockFile) → f ≡ g → IsWriting f → IsWriting g
 at_writing f g same = subst IsWriting same
 
 -- the moments: before the creations, between them, and after
 module _ (view : View) (writer : Writer) where
-  only_one : (v : ℕ) (f : File) → IsListed (block_left writer true ∷ []) v f → IsWriting f
-  only_one v f (inl here) = at_writing writing_block f here.1 tt
+  only_one : (v : ℕ) (f : BlockFile) → IsListed (block_left writer true ∷ []) v f → IsWriting f
+  only_one v f (inl here) = at_writing WritingBlock f here.1 tt
   only_one v f (inr later) = absurd later
 
-  only_two : (v : ℕ) (f : File) → IsListed (block_left writer true ∷ meta_left writer true ∷ []) v f → IsWriting f
-  only_two v f (inl here) = at_writing writing_block f here.1 tt
-  only_two v f (inr (inl here)) = at_writing (writing_meta writer.stamp) f here.1 tt
+  only_two : (v : ℕ) (f : BlockFile) → IsListed (block_left writer true ∷ meta_left writer true ∷ []) v f → IsWriting f
+  only_two v f (inl here) = at_writing WritingBlock f here.1 tt
+  only_two v f (inr (inl here)) = at_writing (WritingMeta writer.stamp) f here.1 tt
   only_two v f (inr (inr later)) = absurd later
 
   pub adds_none : Adds view view (block_left writer true ∷ [])
@@ -108,8 +110,8 @@ module _ (view : View) (writer : Writer) where
 
   pub adds_block : Adds view (block_created view writer) (block_left writer true ∷ [])
   adds_block = record {
-    slots = λ v f. elim (set_slot-cases view writer.vol writing_block (drafted writer.block_number) v f) [
-      | inl here ↦ inr (at_writing writing_block f here.1 tt, inl (here.0, here.1))
+    slots = λ v f. elim (set_slot-cases view writer.vol WritingBlock (drafted writer.block_number) v f) [
+      | inl here ↦ inr (at_writing WritingBlock f here.1 tt, inl (here.0, here.1))
       | inr same ↦ inl same
     ];
     only = only_one;
@@ -117,8 +119,8 @@ module _ (view : View) (writer : Writer) where
 
   pub adds_block_two : Adds view (block_created view writer) (block_left writer true ∷ meta_left writer true ∷ [])
   adds_block_two = record {
-    slots = λ v f. elim (set_slot-cases view writer.vol writing_block (drafted writer.block_number) v f) [
-      | inl here ↦ inr (at_writing writing_block f here.1 tt, inl (here.0, here.1))
+    slots = λ v f. elim (set_slot-cases view writer.vol WritingBlock (drafted writer.block_number) v f) [
+      | inl here ↦ inr (at_writing WritingBlock f here.1 tt, inl (here.0, here.1))
       | inr same ↦ inl same
     ];
     only = only_two;
@@ -126,8 +128,8 @@ module _ (view : View) (writer : Writer) where
 
   pub adds_both : Adds view (both_created view writer) (block_left writer true ∷ meta_left writer true ∷ [])
   adds_both = record {
-    slots = λ v f. elim (set_slot-cases (block_created view writer) writer.vol (writing_meta writer.stamp) (drafted writer.meta_number) v f) [
-      | inl here ↦ inr (at_writing (writing_meta writer.stamp) f here.1 tt, inr (inl (here.0, here.1)))
+    slots = λ v f. elim (set_slot-cases (block_created view writer) writer.vol (WritingMeta writer.stamp) (drafted writer.meta_number) v f) [
+      | inl here ↦ inr (at_writing (WritingMeta writer.stamp) f here.1 tt, inr (inl (here.0, here.1)))
       | inr same ↦ elim (adds_block_two.slots v f) [
         | inl before ↦ inl (same ∙ before)
         | inr new ↦ inr new
@@ -177,8 +179,8 @@ started_stands M view ticket writer stands stamped new =
       settled = λ v f number is drafts. stands.settled v f number is (sym (adds_finalised view both two adds v f is) ∙ drafts);
       stamp = (stamped, tt);
       writer = (
-        set_slot-here view writer.vol writing_block (drafted writer.block_number),
-        set_slot-here (block_created view writer) writer.vol (writing_meta writer.stamp) (drafted writer.meta_number),
+        set_slot-here view writer.vol WritingBlock (drafted writer.block_number),
+        set_slot-here (block_created view writer) writer.vol (WritingMeta writer.stamp) (drafted writer.meta_number),
       );
       ticket = unwanted_ticket both entry [] ticket new (none_left view both ticket two adds stands.ticket);
     }

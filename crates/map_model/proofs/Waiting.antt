@@ -3,15 +3,17 @@ use Rattle.std.proofs.Common.{◌≡◌, ◌⊎◌, inl, inr, ℕ, List, Option,
 use Rattle.std.specs.Prelude.{IsTrue, IfSome}
 use Rattle.volume_layout.specs.Paths.{IsStamp}
 use Rattle.map_model.specs.Cells.{Replica, absent, waiting}
-use Rattle.map_model.specs.Slots.{File, block, meta, writing_block, writing_meta, temporary_block, temporary_meta, drafted, is_standing, View, files_in}
+use Rattle.volume_layout.specs.declared.block_file.BlockFile.{BlockFile}
+use Rattle.volume_layout.specs.declared.block_file.BlockFile.TheVariants.{Block, Meta, WritingBlock, WritingMeta, TemporaryBlock, TemporaryMeta}
+use Rattle.map_model.specs.Slots.{drafted, is_standing, View, files_in}
 use Rattle.map_model.specs.Stands.{EntryState, is_waiting, Entry, Leftover, Ticket, base_of, StateNames, WriterStands, Names, IsListed, Each, LeftoverFits, HasNoPair, IsFinalised, TicketStands, BlockStands}
 use Rattle.map_model.specs.Tenures.{books_of, IsNew}
 use Rattle.map_model.specs.Allows.{AllowsFiles}
 use Rattle.map_model.proofs.KeyLaw.{files_allow}
 
-abbrev pub IsWriting : File → Type 0
-IsWriting writing_block = Unit {0}
-IsWriting (writing_meta stamp) = Unit {0}
+abbrev pub IsWriting : BlockFile → Type 0
+IsWriting WritingBlock = Unit {0}
+IsWriting (WritingMeta stamp) = Unit {0}
 IsWriting file = ⊥
 
 -- a block that waits: what must be shown
@@ -19,22 +21,22 @@ pub record Waits (view : View) (entry : Entry) (leftovers : List Leftover) (tick
   pub state : entry.state ≡ is_waiting
   pub stamp : IsStamp entry.stamp
   pub none : HasNoPair view
-  pub accounted : (v : ℕ) (f : File) → IsTrue (is_standing (view v f)) → Names None ticket v f ⊎ IsListed leftovers v f
-  pub apart : (v : ℕ) (f : File) → IsListed leftovers v f → Names None ticket v f → ⊥
+  pub accounted : (v : ℕ) (f : BlockFile) → IsTrue (is_standing (view v f)) → Names None ticket v f ⊎ IsListed leftovers v f
+  pub apart : (v : ℕ) (f : BlockFile) → IsListed leftovers v f → Names None ticket v f → ⊥
   pub leftovers_fit : Each (LeftoverFits (Some entry)) leftovers
-  pub settled : (v : ℕ) (f : File) (number : ℕ) → IsFinalised f → view v f ≡ drafted number → ⊥
+  pub settled : (v : ℕ) (f : BlockFile) (number : ℕ) → IsFinalised f → view v f ≡ drafted number → ⊥
   pub ticket_stands : IfSome ticket (λ t. TicketStands view None leftovers t)
   pub unwanted : IsNew ticket entry.rev
 
-pub waiting_none : (stamp : ℕ) (f : File) → StateNames is_waiting stamp f → ⊥
-waiting_none stamp block names = names
-waiting_none stamp (meta s) names = names
-waiting_none stamp writing_block names = names
-waiting_none stamp (writing_meta s) names = names
-waiting_none stamp temporary_block names = names
-waiting_none stamp (temporary_meta s) names = names
+pub waiting_none : (stamp : ℕ) (f : BlockFile) → StateNames is_waiting stamp f → ⊥
+waiting_none stamp Block names = names
+waiting_none stamp (Meta s) names = names
+waiting_none stamp WritingBlock names = names
+waiting_none stamp (WritingMeta s) names = names
+waiting_none stamp TemporaryBlock names = names
+waiting_none stamp (TemporaryMeta s) names = names
 
-waiting_names : (ticket : Option Ticket) (entry : Entry) (v : ℕ) (f : File) → entry.state ≡ is_waiting → Names (Some entry) ticket v f → Names None ticket v f
+waiting_names : (ticket : Option Ticket) (entry : Entry) (v : ℕ) (f : BlockFile) → entry.state ≡ is_waiting → Names (Some entry) ticket v f → Names None ticket v f
 waiting_names ticket entry v f state (inl names) =
     let P : EntryState → Type 0 = λ s. StateNames s entry.stamp f in
     let none : StateNames is_waiting entry.stamp f = subst P state names.1 in

@@ -10,7 +10,9 @@ use Rattle.map_model.specs.Steps.{Command, Reply, Room, Step}
 use Rattle.map_model.specs.Allows.{AllowsImage, AllowsFiles, Between}
 use Rattle.map_model.specs.Copies.{BlockFiles, ReadsAs}
 use Rattle.map_model.specs.Sound.{HasSoundCopies, IsSoundBy}
-use Rattle.map_model.specs.Slots.{File, is_file, path_of, View, files_in, view_of}
+use Rattle.volume_layout.specs.declared.block_file.BlockFile.{BlockFile}
+use Rattle.volume_layout.specs.BlockFiles.{is_file, path_of}
+use Rattle.map_model.specs.Slots.{View, files_in, view_of}
 use Rattle.map_model.specs.Stands.{BlockBooks, BlockStands}
 
 -- what is read of a block's files is one thing
@@ -51,10 +53,10 @@ StandsIsSound IsMatch = (told : Option (List World)) (books : ℕ → BlockBooks
 
 -- a call of the disk between files of one block
 pub data CallsFilesOf (id : ℕ) (before : World) : World → Type 0 where
-  a_create : (number vol : ℕ) (file : File) → IsTrue (is_file file) → CallsFilesOf id before (created (draft_at number vol (path_of id file)) before)
-  a_publish : (number vol : ℕ) (from target : File) (bytes : List ℕ) → IsTrue (is_file from) → IsTrue (is_file target) →
+  a_create : (number vol : ℕ) (file : BlockFile) → IsTrue (is_file file) → CallsFilesOf id before (created (draft_at number vol (path_of id file)) before)
+  a_publish : (number vol : ℕ) (from target : BlockFile) (bytes : List ℕ) → IsTrue (is_file from) → IsTrue (is_file target) →
       CallsFilesOf id before (published (draft_at number vol (path_of id from)) bytes (path_of id target) before)
-  a_remove : (vol : ℕ) (file : File) → IsTrue (is_file file) → CallsFilesOf id before (removed vol (path_of id file) before)
+  a_remove : (vol : ℕ) (file : BlockFile) → IsTrue (is_file file) → CallsFilesOf id before (removed vol (path_of id file) before)
 
 -- a call between files of one block leaves what stands for every other block
 abbrev pub OtherBlocksStand : (List ℕ → Replica → Type 0) → Type 0

@@ -1,6 +1,4 @@
 pub mod World
-pub mod Checksums
-pub mod ChecksumLaws
 pub mod Cells
 pub mod Copies
 pub mod Sound

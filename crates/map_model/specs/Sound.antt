@@ -3,7 +3,7 @@ use Rattle.std.specs.Prelude.{ℕ, ◌≡◌, ◌==◌, ◌&&◌, if◌then◌el
 use Rattle.volume_layout.specs.Paths.{IsBlockId}
 use Rattle.disk_model.specs.Files.{Files}
 use Rattle.map_model.specs.Cells.{Replica}
-use Rattle.map_model.specs.Checksums.{Matches}
+use Rattle.meta_file.specs.Checksums.{Matches}
 use Rattle.map_model.specs.Copies.{Spot, BlockFiles, IsGreatestCopy, block_files}
 
 -- the bytes of the meta file of a replica, by its block and its stamp

@@ -4,7 +4,8 @@ use Rattle.volume_layout.specs.Paths.{IsStamp}
 use Rattle.map_model.specs.Cells.{Replica, Cell, absent, final, growing, unsure, waiting}
 use Rattle.map_model.specs.Steps.{finish}
 use Rattle.map_model.specs.Allows.{AllowsFiles, Between}
-use Rattle.map_model.specs.Slots.{File, empty, View, files_in}
+use Rattle.volume_layout.specs.declared.block_file.BlockFile.{BlockFile}
+use Rattle.map_model.specs.Slots.{empty, View, files_in}
 use Rattle.map_model.specs.Stands.{Base, in_doubt, Entry, Leftover, Ticket, BlockBooks, IsListed, WantedStands, BlockStands}
 use Rattle.map_model.specs.Tenures.{books_of, Removes, Writer, IsNew, written_books, new_replica, StartsWrite, FinishesFresh, DropsFresh, DropsAppend, DeletesFinal, DeletesUnsure, StartsAppend, FinishesAppend, moved_block, moved_meta, BeginsMove, PublishesMove}
 
@@ -99,7 +100,7 @@ FinishAppendStands IsMatch = (view : View) (leftovers : List Leftover) (ticket :
 pub record MayMove (view : View) (entry : Entry) (leftovers : List Leftover) (ticket : Ticket) : Type 0 where
   pub stamped : IsStamp ticket.stamp
   pub elsewhere : entry.vol ≢ ticket.dest
-  pub clear : (file : File) → IsListed leftovers ticket.dest file → ⊥
+  pub clear : (file : BlockFile) → IsListed leftovers ticket.dest file → ⊥
   pub told : WantedStands view ticket entry entry.state
 
 abbrev pub BeginMoveStands : (List ℕ → Replica → Type 0) → Type 0

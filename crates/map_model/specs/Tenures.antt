@@ -2,7 +2,9 @@
 -- or after its effect; and what the books and the cell then say.
 use Rattle.std.specs.Prelude.{ℕ, ◌≡◌, ◌≢◌, ◌⊎◌, IfSome, Bool, true, false, List, [], ◌∷◌, ◌++◌, length, take, Option, Some, None}
 use Rattle.map_model.specs.Cells.{Replica, Cell, absent, final, growing, unsure, waiting}
-use Rattle.map_model.specs.Slots.{File, block, meta, writing_block, writing_meta, temporary_block, temporary_meta, View, create_in, publish_in, remove_in}
+use Rattle.volume_layout.specs.declared.block_file.BlockFile.{BlockFile}
+use Rattle.volume_layout.specs.declared.block_file.BlockFile.TheVariants.{Block, Meta, WritingBlock, WritingMeta, TemporaryBlock, TemporaryMeta}
+use Rattle.map_model.specs.Slots.{View, create_in, publish_in, remove_in}
 use Rattle.map_model.specs.Stands.{Base, EntryState, is_final, is_written, in_doubt, is_waiting, Entry, Leftover, Ticket, BlockBooks}
 
 -- a call that failed has its effect, or none
@@ -43,17 +45,17 @@ written_books base leftovers ticket writer =
 
 -- the writer's files as leftovers, held or not
 abbrev pub block_left : Writer → Bool → Leftover
-block_left writer held = record { stamp = writer.stamp; vol = writer.vol; file = writing_block; len = writer.len; held = held }
+block_left writer held = record { stamp = writer.stamp; vol = writer.vol; file = WritingBlock; len = writer.len; held = held }
 
 abbrev pub meta_left : Writer → Bool → Leftover
-meta_left writer held = record { stamp = writer.stamp; vol = writer.vol; file = writing_meta writer.stamp; len = 0; held = held }
+meta_left writer held = record { stamp = writer.stamp; vol = writer.vol; file = WritingMeta writer.stamp; len = 0; held = held }
 
 -- after the creation of the block's draft, and of the meta's
 abbrev pub block_created : View → Writer → View
-block_created view writer = create_in view writer.vol writing_block writer.block_number
+block_created view writer = create_in view writer.vol WritingBlock writer.block_number
 
 abbrev pub both_created : View → Writer → View
-both_created view writer = create_in (block_created view writer) writer.vol (writing_meta writer.stamp) writer.meta_number
+both_created view writer = create_in (block_created view writer) writer.vol (WritingMeta writer.stamp) writer.meta_number
 
 -- `start_write`, once no leftover of the block is listed
 pub data StartsWrite (view : View) (ticket : Option Ticket) (writer : Writer) : View → BlockBooks → Cell → Type 0 where
@@ -71,13 +73,13 @@ pub data StartsWrite (view : View) (ticket : Option Ticket) (writer : Writer) : 
 
 -- after the publish of the meta, and of the block file, and the removal of the base's meta
 abbrev pub meta_published : View → Writer → List ℕ → View
-meta_published view writer content = publish_in view writer.vol (writing_meta writer.stamp) (meta writer.stamp) content
+meta_published view writer content = publish_in view writer.vol (WritingMeta writer.stamp) (Meta writer.stamp) content
 
 abbrev pub both_published : View → Writer → List ℕ → List ℕ → View
-both_published view writer content bytes = publish_in (meta_published view writer content) writer.vol writing_block block bytes
+both_published view writer content bytes = publish_in (meta_published view writer content) writer.vol WritingBlock Block bytes
 
 abbrev pub old_removed : View → Writer → List ℕ → List ℕ → Replica → View
-old_removed view writer content bytes base = remove_in (both_published view writer content bytes) writer.vol (meta base.stamp)
+old_removed view writer content bytes base = remove_in (both_published view writer content bytes) writer.vol (Meta base.stamp)
 
 -- the entry of a replica, and of a writer that became final
 abbrev pub final_entry : Writer → (len : ℕ) → Entry
@@ -99,10 +101,10 @@ pub data FinishesFresh (view : View) (leftovers : List Leftover) (ticket : Optio
 
 -- `drop_write` and `fail_write` of a fresh write
 abbrev pub block_dropped : View → Writer → View
-block_dropped view writer = remove_in view writer.vol writing_block
+block_dropped view writer = remove_in view writer.vol WritingBlock
 
 abbrev pub both_dropped : View → Writer → View
-both_dropped view writer = remove_in (block_dropped view writer) writer.vol (writing_meta writer.stamp)
+both_dropped view writer = remove_in (block_dropped view writer) writer.vol (WritingMeta writer.stamp)
 
 pub data DropsFresh (view : View) (leftovers : List Leftover) (ticket : Option Ticket) (writer : Writer) : View → BlockBooks → Cell → Type 0 where
   dropped : DropsFresh view leftovers ticket writer (both_dropped view writer) (books_of None leftovers ticket) absent
@@ -135,32 +137,32 @@ pub data DropsAppend (view : View) (leftovers : List Leftover) (ticket : Option 
       (books_of (Some (base_entry writer base)) (block_left writer false ∷ meta_left writer false ∷ leftovers) ticket) (final replica)
 
 -- files are removed from a volume, one after the other
-abbrev pub remove_all : View → ℕ → List File → View
+abbrev pub remove_all : View → ℕ → List BlockFile → View
 remove_all view vol [] = view
 remove_all view vol (file ∷ files) = remove_all (remove_in view vol file) vol files
 
 -- the metas that an unsure entry names
-abbrev pub doubt_metas : ℕ → Option Base → List File
-doubt_metas stamp None = meta stamp ∷ []
-doubt_metas stamp (Some base) = meta stamp ∷ meta base.stamp ∷ []
+abbrev pub doubt_metas : ℕ → Option Base → List BlockFile
+doubt_metas stamp None = Meta stamp ∷ []
+doubt_metas stamp (Some base) = Meta stamp ∷ Meta base.stamp ∷ []
 
 -- the entry of a delete that failed
 abbrev pub doubtful : Entry → Option Base → Entry
 doubtful entry base = record { stamp = entry.stamp; len = entry.len; vol = entry.vol; rev = entry.rev; state = in_doubt base }
 
 -- `delete`, once no leftover of the block is listed: where it fails, some of the removals are done, from the first on
-pub data Deletes (view : View) (ticket : Option Ticket) (entry : Entry) (files : List File) (failed : BlockBooks) (failed_cell : Cell) : View → BlockBooks → Cell → Type 0 where
+pub data Deletes (view : View) (ticket : Option Ticket) (entry : Entry) (files : List BlockFile) (failed : BlockBooks) (failed_cell : Cell) : View → BlockBooks → Cell → Type 0 where
   deleted : Deletes view ticket entry files failed failed_cell (remove_all view entry.vol files) (books_of None [] ticket) absent
   delete_failed : (count : ℕ) → Deletes view ticket entry files failed failed_cell (remove_all view entry.vol (take count files)) failed failed_cell
 
 -- of a final block, of an unsure one, and of one that waits
 abbrev pub DeletesFinal : View → Option Ticket → Entry → Replica → View → BlockBooks → Cell → Type 0
-DeletesFinal view ticket entry replica = Deletes view ticket entry (block ∷ meta entry.stamp ∷ [])
+DeletesFinal view ticket entry replica = Deletes view ticket entry (Block ∷ Meta entry.stamp ∷ [])
     (books_of (Some (doubtful entry None)) [] ticket) (unsure (Some replica) None false)
 
 abbrev pub DeletesUnsure : View → Option Ticket → Entry → Option Base → (x y : Option Replica) → View → BlockBooks → Cell → Type 0
 DeletesUnsure view ticket entry base x y =
-    Deletes view ticket entry (block ∷ (doubt_metas entry.stamp base ++ (writing_block ∷ writing_meta entry.stamp ∷ [])))
+    Deletes view ticket entry (Block ∷ (doubt_metas entry.stamp base ++ (WritingBlock ∷ WritingMeta entry.stamp ∷ [])))
     (books_of (Some (doubtful entry base)) [] ticket) (unsure x y true)
 
 -- the base that an entry becomes
@@ -169,7 +171,7 @@ base_of_entry entry = record { stamp = entry.stamp; len = entry.len }
 
 -- the files of a refused start count nothing
 abbrev pub refused_block : Writer → Leftover
-refused_block writer = record { stamp = writer.stamp; vol = writer.vol; file = writing_block; len = 0; held = false }
+refused_block writer = record { stamp = writer.stamp; vol = writer.vol; file = WritingBlock; len = 0; held = false }
 
 -- `start_append`, once no leftover of the block is listed; a reader that could not be lent changes nothing
 pub data StartsAppend (view : View) (ticket : Option Ticket) (entry : Entry) (replica : Replica) (writer : Writer) (more : ℕ) : View → BlockBooks → Cell → Type 0 where
@@ -200,16 +202,16 @@ pub data FinishesAppend (view : View) (leftovers : List Leftover) (ticket : Opti
 
 -- a move's files as leftovers
 abbrev pub moved_block : Ticket → ℕ → Leftover
-moved_block ticket len = record { stamp = ticket.stamp; vol = ticket.dest; file = temporary_block; len = len; held = false }
+moved_block ticket len = record { stamp = ticket.stamp; vol = ticket.dest; file = TemporaryBlock; len = len; held = false }
 
 abbrev pub moved_meta : Ticket → Leftover
-moved_meta ticket = record { stamp = ticket.stamp; vol = ticket.dest; file = temporary_meta ticket.stamp; len = 0; held = false }
+moved_meta ticket = record { stamp = ticket.stamp; vol = ticket.dest; file = TemporaryMeta ticket.stamp; len = 0; held = false }
 
 abbrev pub move_block_created : View → Ticket → View
-move_block_created view ticket = create_in view ticket.dest temporary_block ticket.block_number
+move_block_created view ticket = create_in view ticket.dest TemporaryBlock ticket.block_number
 
 abbrev pub move_created : View → Ticket → View
-move_created view ticket = create_in (move_block_created view ticket) ticket.dest (temporary_meta ticket.stamp) ticket.meta_number
+move_created view ticket = create_in (move_block_created view ticket) ticket.dest (TemporaryMeta ticket.stamp) ticket.meta_number
 
 -- a move's `begin`; a reader that could not be lent changes nothing
 pub data BeginsMove (view : View) (entry : Option Entry) (leftovers : List Leftover) (ticket : Ticket) (cell : Cell) : View → BlockBooks → Cell → Type 0 where
@@ -223,17 +225,17 @@ pub data BeginsMove (view : View) (entry : Option Entry) (leftovers : List Lefto
 
 -- a move's publishes
 abbrev pub move_meta_published : View → Ticket → View
-move_meta_published view ticket = publish_in view ticket.dest (temporary_meta ticket.stamp) (meta ticket.stamp) ticket.meta_bytes
+move_meta_published view ticket = publish_in view ticket.dest (TemporaryMeta ticket.stamp) (Meta ticket.stamp) ticket.meta_bytes
 
 abbrev pub move_published : View → Ticket → View
-move_published view ticket = publish_in (move_meta_published view ticket) ticket.dest temporary_block block ticket.block_bytes
+move_published view ticket = publish_in (move_meta_published view ticket) ticket.dest TemporaryBlock Block ticket.block_bytes
 
 -- finalised files as leftovers
 abbrev pub final_block_left : Ticket → ℕ → Leftover
-final_block_left ticket vol = record { stamp = ticket.stamp; vol = vol; file = block; len = ticket.len; held = false }
+final_block_left ticket vol = record { stamp = ticket.stamp; vol = vol; file = Block; len = ticket.len; held = false }
 
 abbrev pub final_meta_left : Ticket → ℕ → Leftover
-final_meta_left ticket vol = record { stamp = ticket.stamp; vol = vol; file = meta ticket.stamp; len = 0; held = false }
+final_meta_left ticket vol = record { stamp = ticket.stamp; vol = vol; file = Meta ticket.stamp; len = 0; held = false }
 
 -- the entry after a move
 abbrev pub moved_entry : Entry → Ticket → Entry

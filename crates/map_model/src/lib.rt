@@ -2,12 +2,10 @@
 //! tie them together. Each law is the contract of a function that does nothing.
 #![tactic(auto)]
 
-mod checksums;
 mod images;
 mod steps;
 mod tenures;
 
-pub use checksums::{has_check_values, some_do_not_match, some_match};
 pub use images::{
     block_allows, block_is_sound, files_have_one_reading, other_blocks_stand, stands_allows,
     stands_is_sound,

@@ -1,7 +1,7 @@
 -- The big-endian numbers of a header.
 use Rattle.std.proofs.Common.{◌≡◌, ℕ, ◌^◌, ◌<◌, ◌≤◌, List, [], ◌∷◌, length, take, arith}
 use Rattle.byteorder.specs.Endian.{big_number, big_bytes}
-use Rattle.map_model.specs.Checksums.{big_endian}
+use Rattle.meta_file.specs.Checksums.{big_endian}
 
 -- two bytes
 pub big_endian-two : (bytes : List ℕ) → 2 ≤ length bytes → big_number 2 bytes ≡ big_endian 0 (take 2 bytes)

@@ -5,7 +5,7 @@ use Rattle.std.proofs.Math.Nat.{mul-le-mul_left, add-div_left, add-mod_left, mul
 use Rattle.std.proofs.Math.Seq.{drop-append_seam, take-append-add}
 use Rattle.std.proofs.lemmas.Nat.{div-mul-add, div-add-mod'}
 use Rattle.std.proofs.lemmas.List.{length-take-le, take_all, take-append-le, drop-append-le, drop_all, append-nil}
-use Rattle.map_model.specs.Checksums.{crc, crc_byte, crc_from, big_endian, chunk_count, HasSums}
+use Rattle.meta_file.specs.Checksums.{crc, crc_byte, crc_from, big_endian, chunk_count, HasSums}
 use Rattle.meta_file.specs.Tables.{after, bit_step, bit_steps, byte_step}
 use Rattle.meta_file.specs.Sums.{Progress, polynomial, HasSummed, Summed, Gives, Ends, Adds}
 

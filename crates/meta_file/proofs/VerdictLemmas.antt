@@ -3,7 +3,7 @@ use Rattle.std.proofs.Common.{◌≡◌, ◌≢◌, ℕ, zero, suc, ◌+◌, ◌
 use Rattle.std.specs.Prelude.{◌==◌, true, false, Option, Some, None, Result, Ok, Err}
 use Rattle.std.proofs.lemmas.Bool.Decides.{Decides-eqb, nat_tests}
 use Rattle.std.proofs.lemmas.List.{take_all}
-use Rattle.map_model.specs.Checksums.{chunk_count, castagnoli, ethernet, HeaderIs, HasSums, SumsMatch, Matches}
+use Rattle.meta_file.specs.Checksums.{chunk_count, castagnoli, ethernet, HeaderIs, HasSums, SumsMatch, Matches}
 use Rattle.meta_file.specs.declared.header.Header.{Header}
 use Rattle.meta_file.specs.declared.header.MetaFault.{MetaFault}
 use Rattle.meta_file.specs.declared.verdict.Verdict.{Verdict}

@@ -1,7 +1,7 @@
 -- The headers of meta files.
 use Rattle.std.specs.Prelude.{ℕ, ◌≡◌, ◌≢◌, ◌<◌, ◌≤◌, ◌⊎◌, ◌==◌, ◌&&◌, nat_lt, nat_le, not, List, [], ◌∷◌, ◌++◌, length, take, drop, slice_index, Result, Ok, Err, if◌then◌else◌}
 use Rattle.byteorder.specs.Endian.{big_bytes}
-use Rattle.map_model.specs.Checksums.{big_endian}
+use Rattle.meta_file.specs.Checksums.{big_endian}
 use Rattle.meta_file.specs.declared.header.Header.{Header}
 use Rattle.meta_file.specs.declared.header.MetaFault.{MetaFault}
 use Rattle.meta_file.specs.declared.header.MetaFault.TheVariants.{Short, Version, Kind, Step}

@@ -1,3 +1,5 @@
+pub mod Checksums
+pub mod ChecksumLaws
 pub mod Tables
 pub mod Headers
 pub mod Sums

@@ -1,6 +1,6 @@
 -- The checksums of chunks, as bytes come in.
 use Rattle.std.specs.Prelude.{◌≡◌, ◌<◌, ℕ, zero, suc, ◌+◌, ◌*◌, List, [], ◌++◌, length, take, drop}
-use Rattle.map_model.specs.Checksums.{crc, crc_from, castagnoli, ethernet, big_endian, SumsMatch}
+use Rattle.meta_file.specs.Checksums.{crc, crc_from, castagnoli, ethernet, big_endian, SumsMatch}
 
 -- the polynomial of a type
 abbrev pub polynomial : ℕ → ℕ

@@ -1,6 +1,6 @@
 -- The verdict on a block by its meta file: the first that applies.
 use Rattle.std.specs.Prelude.{ℕ, zero, suc, ◌+◌, ◌*◌, ◌/◌, ◌≡◌, ◌≢◌, ◌<◌, ◌≤◌, ◌==◌, ◌↔◌, nat_lt, min, List, length, take, drop, Option, Some, None, Result, Ok, Err, if◌then◌else◌}
-use Rattle.map_model.specs.Checksums.{crc, big_endian, chunk_count, Matches}
+use Rattle.meta_file.specs.Checksums.{crc, big_endian, chunk_count, Matches}
 use Rattle.meta_file.specs.declared.header.Header.{Header}
 use Rattle.meta_file.specs.declared.header.MetaFault.{MetaFault}
 use Rattle.meta_file.specs.declared.verdict.Verdict.{Verdict}

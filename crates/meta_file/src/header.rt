@@ -1,6 +1,6 @@
 //! The headers of meta files: seven bytes, numbers big-endian.
 ghost use Rattle.std.specs.Prelude.{◌≡◌, ◌≤◌, ◌++◌, Ok, IfOk, IfErr, length, take, drop};
-ghost use Rattle.map_model.specs.Checksums.{HeaderIs, big_endian};
+ghost use Rattle.meta_file.specs.Checksums.{HeaderIs, big_endian};
 ghost use Rattle.meta_file.specs.Headers.{IsHeader, IsHeaderFault, header_of, header_bytes};
 
 use byteorder::{BigEndian, ByteOrder};

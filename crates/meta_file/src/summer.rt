@@ -2,7 +2,7 @@
 ghost use Rattle.std.specs.Prelude.{◌≡◌, ◌≤◌, ◌<◌, ◌+◌, ◌*◌, ◌/◌, ◌%◌, ◌-◌, ◌^◌, [], ◌++◌, length, take, vec_len, IsOk, IfSome, IfNone, OnOk, OnErr};
 ghost use Rattle.std.specs.Vec.{vec_capacity};
 ghost use Rattle.byteorder.specs.Endian.{big_bytes};
-ghost use Rattle.map_model.specs.Checksums.{big_endian};
+ghost use Rattle.meta_file.specs.Checksums.{big_endian};
 ghost use Rattle.meta_file.specs.Headers.{IsHeader};
 ghost use Rattle.meta_file.specs.Sums.{polynomial, Summed, Gives, Ends, Adds, Completes};
 

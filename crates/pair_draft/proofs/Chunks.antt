@@ -5,7 +5,7 @@ use Rattle.std.proofs.Math.Seq.{take-add, drop-append-add}
 use Rattle.std.proofs.lemmas.Nat.{div-mul-add}
 use Rattle.std.proofs.lemmas.Bool.Decides.{nat_tests}
 use Rattle.std.proofs.lemmas.List.{take-take, drop-take, length-take-le}
-use Rattle.map_model.specs.Checksums.{crc, big_endian, chunk_count, HasSums, SumsMatch}
+use Rattle.meta_file.specs.Checksums.{crc, big_endian, chunk_count, HasSums, SumsMatch}
 use Rattle.meta_file.specs.Sums.{Progress, polynomial, SummedBy, Summed, Gives, Ends}
 use Rattle.meta_file.specs.Verdicts.{stored_sum, chunk_sum, given_chunks}
 use Rattle.pair_draft.specs.Checking.{TakenIn, AreSums}

@@ -6,7 +6,7 @@ use Rattle.std.proofs.lemmas.Nat.{le-div, div-add-mod'}
 use Rattle.std.proofs.lemmas.Bool.{cases_lt}
 use Rattle.std.proofs.lemmas.Bool.Decides.{nat_tests}
 use Rattle.std.proofs.lemmas.List.{take-take, drop-take, drop-drop, take-append-le, length-take-le}
-use Rattle.map_model.specs.Checksums.{big_endian, chunk_count}
+use Rattle.meta_file.specs.Checksums.{big_endian, chunk_count}
 use Rattle.meta_file.specs.declared.verdict.Verdict.TheVariants.{Whole, BadChunk, Short}
 use Rattle.meta_file.specs.declared.header.Header.{Header}
 use Rattle.meta_file.specs.declared.header.MetaFault.{MetaFault}

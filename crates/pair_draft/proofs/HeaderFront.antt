@@ -4,7 +4,7 @@ use Rattle.std.specs.Prelude.{min, slice_index}
 use Rattle.std.proofs.lemmas.Bool.{cases_lt}
 use Rattle.std.proofs.lemmas.Bool.Decides.{nat_tests}
 use Rattle.std.proofs.lemmas.List.{take_all, take-take, drop-take, length-take-le}
-use Rattle.map_model.specs.Checksums.{big_endian}
+use Rattle.meta_file.specs.Checksums.{big_endian}
 use Rattle.meta_file.specs.Headers.{header_of, header_with}
 
 -- enough bytes

@@ -1,7 +1,7 @@
 -- Writers and sealed pairs: what they hold, and the bytes that were pushed.
 use Rattle.std.specs.Prelude.{ℕ, ◌≡◌, ◌<◌, ◌≤◌, ◌⊎◌, List, [], ◌∷◌, ◌++◌, length, Option, Some, IsSome, option_map, option_and_then, box_value}
 use Rattle.disk_model.specs.Worlds.{World, DraftPlace}
-use Rattle.map_model.specs.Checksums.{castagnoli, HasSums, Matches}
+use Rattle.meta_file.specs.Checksums.{castagnoli, HasSums, Matches}
 use Rattle.meta_file.specs.Sums.{Progress, Summed}
 use Rattle.pair_draft.specs.declared.writer.Writing.{Writing}
 use Rattle.pair_draft.specs.declared.writer.SealedPair.{SealedPair}

@@ -1,6 +1,6 @@
 //! The chunks of a block beside the checksums of its meta file.
 ghost use Rattle.std.specs.Prelude.{◌≡◌, ◌+◌, ◌*◌, ◌/◌, ◌-◌, ◌<◌, ◌≤◌, List, ℕ, [], length, take, drop};
-ghost use Rattle.map_model.specs.Checksums.{chunk_count};
+ghost use Rattle.meta_file.specs.Checksums.{chunk_count};
 ghost use Rattle.meta_file.specs.Headers.{IsHeader};
 ghost use Rattle.meta_file.specs.Sums.{polynomial};
 ghost use Rattle.pair_draft.specs.Checking.{TakenIn, AreSums, IsUnderWay, IsSameCheck};

@@ -1,7 +1,7 @@
 //! Whether a block has the bytes that its meta file tells of.
 ghost use Rattle.std.specs.Prelude.{◌≡◌, ◌+◌, ◌*◌, ◌^◌, ◌<◌, ◌≤◌, ◌⊎◌, List, ℕ, length, drop, Some, None, Ok, IfOk, IfErr, IfSome, IsErr};
 ghost use Rattle.disk_model.specs.Causes.{Rose, HasCause};
-ghost use Rattle.map_model.specs.Checksums.{chunk_count};
+ghost use Rattle.meta_file.specs.Checksums.{chunk_count};
 ghost use Rattle.meta_file.specs.Headers.{IsHeader, IsHeaderFault, header_of};
 ghost use Rattle.meta_file.specs.Sums.{polynomial};
 ghost use Rattle.meta_file.specs.Verdicts.{length_verdict, sums_verdict, verdict_of};

@@ -3,7 +3,7 @@ ghost use Rattle.std.specs.Prelude.{◌≡◌, ◌+◌, ◌*◌, ◌-◌, ◌<�
 ghost use Rattle.std.specs.Vec.{vec_capacity};
 ghost use Rattle.disk_model.specs.Causes.{Rose};
 ghost use Rattle.disk_model.specs.Worlds.{World};
-ghost use Rattle.map_model.specs.Checksums.{chunk_count};
+ghost use Rattle.meta_file.specs.Checksums.{chunk_count};
 ghost use Rattle.pair_draft.specs.Writers.{writer_of, pair_of, meta_header, IsFresh, HasPushed, HasWritten, HasSealed, FailedOf, Keeps};
 ghost use Rattle.pair_draft.specs.declared.writing.PushFault.TheVariants.{Over};
 ghost use Rattle.pair_draft.specs.declared.writing.SealFault.TheVariants.{Failed, Memory};

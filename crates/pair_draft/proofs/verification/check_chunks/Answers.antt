@@ -1,6 +1,6 @@
 use Rattle.std.proofs.Common.{◌≡◌, ℕ, ◌+◌, ◌*◌, ◌<◌, List, length, drop, sym, ap, subst, ◌∙◌, arith}
 use Rattle.std.specs.Prelude.{Option}
-use Rattle.map_model.specs.Checksums.{chunk_count}
+use Rattle.meta_file.specs.Checksums.{chunk_count}
 use Rattle.meta_file.specs.declared.verdict.Verdict.{Verdict}
 use Rattle.meta_file.specs.Sums.{polynomial}
 use Rattle.meta_file.specs.Verdicts.{given_chunks, sums_verdict}

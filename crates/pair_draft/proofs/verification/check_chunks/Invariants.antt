@@ -1,5 +1,5 @@
 use Rattle.std.proofs.Common.{◌≡◌, ◌≤◌, ◌+◌, ◌*◌, ◌-◌, ℕ, List, length, drop, Some}
-use Rattle.map_model.specs.Checksums.{chunk_count}
+use Rattle.meta_file.specs.Checksums.{chunk_count}
 use Rattle.pair_draft.specs.Files.{file_bytes, file_faults, SameFile}
 use Rattle.pair_draft.specs.Checking.{IsUnderWay, Agrees}
 use Rattle.pair_draft.proofs.verification.check_chunks.Given as goal

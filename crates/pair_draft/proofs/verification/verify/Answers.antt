@@ -1,6 +1,6 @@
 use Rattle.std.proofs.Common.{◌≡◌, ◌+◌, ◌*◌, ◌<◌, length, drop, sym, subst, ◌∙◌, arith, length-drop, Ok}
 use Rattle.std.specs.Prelude.{Option, IfOk}
-use Rattle.map_model.specs.Checksums.{chunk_count}
+use Rattle.meta_file.specs.Checksums.{chunk_count}
 use Rattle.meta_file.specs.declared.verdict.Verdict.{Verdict}
 use Rattle.meta_file.specs.Headers.{header_of}
 use Rattle.meta_file.proofs.VerdictLemmas.{header_is}

@@ -1,5 +1,5 @@
 // What the checksums are of some bytes.
-ghost use Rattle.map_model.specs.ChecksumLaws.{HasCheckValues, SomeDoNot, SomeMatch};
+ghost use Rattle.meta_file.specs.ChecksumLaws.{HasCheckValues, SomeDoNot, SomeMatch};
 
 /// CRC-32C and CRC-32 have the check values of the catalogue of CRC parameters.
 pub fn has_check_values()

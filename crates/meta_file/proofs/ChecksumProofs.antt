@@ -1,7 +1,7 @@
 -- The checksums and metas of some bytes.
 use Rattle.std.proofs.Common.{◌≡◌, ◌≢◌, ℕ, zero, suc, ◌*◌, ◌<◌, ◌≤◌, List, [], ◌∷◌, ◌++◌, length, take, drop, refl, sym, ◌∙◌, subst, arith}
-use Rattle.map_model.specs.Checksums.{crc_byte, crc, castagnoli, ethernet, big_endian, chunk_count, HeaderIs, HasSums, SumsMatch, Matches}
-use Rattle.map_model.specs.ChecksumLaws.{check_bytes, header, HasCheckValues, SomeMatch, SomeDoNot}
+use Rattle.meta_file.specs.Checksums.{crc_byte, crc, castagnoli, ethernet, big_endian, chunk_count, HeaderIs, HasSums, SumsMatch, Matches}
+use Rattle.meta_file.specs.ChecksumLaws.{check_bytes, header, HasCheckValues, SomeMatch, SomeDoNot}
 
 crc_castagnoli : crc castagnoli check_bytes ≡ 0xe306_9283
 unfolding crc_byte

@@ -1,6 +1,6 @@
 -- What the checksums are of some bytes, from the catalogue of CRC parameters, and what a meta file holds.
 use Rattle.std.specs.Prelude.{ℕ, ◌≡◌, List, [], ◌∷◌, ◌++◌, codes}
-use Rattle.map_model.specs.Checksums.{crc, castagnoli, ethernet, Matches}
+use Rattle.meta_file.specs.Checksums.{crc, castagnoli, ethernet, Matches}
 
 -- the bytes over which the check value of a CRC is taken
 abbrev pub check_bytes : List ℕ

@@ -1,0 +1,5 @@
+use Rattle.meta_file.proofs.ChecksumProofs as laws
+use Rattle.meta_file.proofs.checksums.some_do_not_match.Goals as goal
+
+pub returns : goal.returns
+returns c = laws.some_do_not_match
