@@ -7,7 +7,7 @@ use Rattle.disk_model.specs.Moments.{AddsOnly}
 use Rattle.volume_layout.specs.Paths.{IsBlockId}
 use Rattle.map_model.specs.Cells.{Replica, Cell, Cells, absent, final, growing, unsure, waiting}
 use Rattle.map_model.specs.Allows.{Allows}
-use Rattle.map_model.specs.Sound.{Knowledge, Fits}
+use Rattle.map_model.specs.Sound.{Knowledge, matching, Fits}
 use Rattle.map_model.specs.Steps.{Step, delete, failed, done, is_writing, delete_refusal}
 use Rattle.map_model.specs.Slots.{File, block, meta, writing_block, writing_meta, View}
 use Rattle.map_model.specs.Stands.{Agrees, WritesOver, IsInDoubt, is_final, in_doubt, is_waiting, Leftover, BlockStands}
@@ -243,7 +243,7 @@ module _ {told : Option (List World)} {volumes : ℕ} {entries : ℕ → Option 
         (found_kept id found found' same_found) tt tt (stands.found_placed id valid) (λ no. none) waits_own
 
 -- a quiet tenure that failed to delete a block
-pub quiet_failure : {Says : Cell → Type 0} {cells : Cells} {Stood StandsFor : Bool → Cells → Type 0} {past since : ℕ → Files → Type 0} (id : ℕ) → IsQuiet cells Stood StandsFor past since →
+pub quiet_failure : {Says : Cell → Type 0} {cells : Cells} {Stood StandsFor : Knowledge → Cells → Type 0} {past since : ℕ → Files → Type 0} (id : ℕ) → IsQuiet cells Stood StandsFor past since →
     Step unlimited (cells id) delete failed (cells id) → Says (cells id) → TakesStep id delete failed Says cells Stood StandsFor past since
 quiet_failure {cells = cells} {StandsFor = StandsFor} id quiet step says = record {
   to = record { cell = cells id; step = step; says = says; stands = λ known old. subst (StandsFor known) (sym (with_cell-same cells id)) (quiet.stands known old) };
@@ -253,7 +253,7 @@ quiet_failure {cells = cells} {StandsFor = StandsFor} id quiet step says = recor
 }
 
 -- a quiet tenure, and then the books forget the block
-pub quiet_deletion : {Says : Cell → Type 0} {cells : Cells} {Stood Between StandsFor : Bool → Cells → Type 0} {past since : ℕ → Files → Type 0} (id : ℕ) → IsQuiet cells Stood Between past since →
+pub quiet_deletion : {Says : Cell → Type 0} {cells : Cells} {Stood Between StandsFor : Knowledge → Cells → Type 0} {past since : ℕ → Files → Type 0} (id : ℕ) → IsQuiet cells Stood Between past since →
     Step unlimited (cells id) delete done absent → Says absent → ((known : Knowledge) → Between known cells → StandsFor known (with_cell cells id absent)) →
     TakesStep id delete done Says cells Stood StandsFor past since
 quiet_deletion id quiet step says forgets = record {

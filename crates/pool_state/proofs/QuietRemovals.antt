@@ -13,7 +13,7 @@ use Rattle.disk_model.specs.Told.{CanLeave}
 use Rattle.volume_layout.specs.Paths.{IsBlockId}
 use Rattle.map_model.specs.Cells.{Cells, waiting}
 use Rattle.map_model.specs.Allows.{AllowsImage}
-use Rattle.map_model.specs.Sound.{Knowledge, Fits}
+use Rattle.map_model.specs.Sound.{Knowledge, matching, Fits}
 use Rattle.map_model.specs.Slots.{View, remove_in}
 use Rattle.map_model.specs.Stands.{Agrees, Entry as BookEntry, Leftover as BookLeftover, Each, HasNoPair, BlockStands}
 use Rattle.map_model.specs.Tenures.{books_of, Fails, gone, kept}
@@ -172,12 +172,12 @@ quiet_same {told = told} {volumes = volumes} {entries = entries} {found' = found
     (subst (λ fs. PoolStands told volumes entries fs known cells) (sym (fun_ext same_found)) stands)
 
 -- two quiet tenures, one after the other
-pub both_quiet : {cells : Cells} {Stood Between StandsFor : Bool → Cells → Type 0} {past mid since : ℕ → Files → Type 0} →
+pub both_quiet : {cells : Cells} {Stood Between StandsFor : Knowledge → Cells → Type 0} {past mid since : ℕ → Files → Type 0} →
     IsQuiet cells Stood Between past mid → IsQuiet cells Between StandsFor mid since → IsQuiet cells Stood StandsFor past since
 both_quiet first second = record {
   stands = λ known old. second.stands known (first.stands known old);
   images = adds_join first.images second.images;
-  sound_images = λ old. adds_join (first.sound_images old) (second.sound_images (first.stands true old));
+  sound_images = λ old. adds_join (first.sound_images old) (second.sound_images (first.stands matching old));
   whole_images = adds_join first.whole_images second.whole_images;
 }
 

@@ -51,7 +51,7 @@ not_waiting (Waiting b m) e (unsure x y cut) is agrees not = absurd (subst IsInD
 not_waiting (Waiting b m) e waiting is agrees not = absurd (not refl)
 
 -- a copy of a block that doesn't wait is its only one
-alone : (M : List ℕ → List ℕ → Type 0) (view : View) (e : Entry) (found : List Leftover) (cell : Cell) → BlockStands M view (block_books (Some e) found) cell →
+alone : (M : List ℕ → Replica → Type 0) (view : View) (e : Entry) (found : List Leftover) (cell : Cell) → BlockStands M view (block_books (Some e) found) cell →
     IsNoWait e.state → found ≡ [] → (spot : Spot) (replica : Replica) → IsCopy (files_in view) spot replica → IsAlone (files_in view) spot
 alone M view e found cell stands settled clean spot replica copy =
     let at : (v : ℕ) (f : File) → IsOwn f → IsTrue (is_standing (view v f)) → (e.vol ≡ v) × StateNames (entry_state e.state) e.stamp f =
@@ -81,7 +81,7 @@ waiting_whole view none spot replica copy =
     (bytes-standing (view spot.vol (meta replica.stamp)) (KeepsStamp-meta (files_in view) spot replica.stamp copy.stamp)))
 
 -- so is that of any block
-pub block_whole : (M : List ℕ → List ℕ → Type 0) (view : View) (entry : Option Entry) (found : List Leftover) (cell : Cell) → BlockStands M view (block_books entry found) cell →
+pub block_whole : (M : List ℕ → Replica → Type 0) (view : View) (entry : Option Entry) (found : List Leftover) (cell : Cell) → BlockStands M view (block_books entry found) cell →
     (IsNotWaiting entry → found ≡ []) → IsWholeIn view
 block_whole M view None found cell stands clean spot replica copy =
     absurd (own_file M view (block_books None found) cell stands spot.vol block tt (bytes-standing (view spot.vol block) (ap is_some copy.block)))

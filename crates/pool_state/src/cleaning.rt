@@ -1,5 +1,5 @@
 //! Removing files of a block.
-ghost use Rattle.std.specs.Prelude.{◌≡◌, ◌≢◌, ◌≤◌, ◌<◌, ℕ, true, [], Some, length, suc, map, All, IsOk, IsErr, IfOk, IsTrue, OnOk, if◌then◌else◌};
+ghost use Rattle.std.specs.Prelude.{◌≡◌, ◌≢◌, ◌≤◌, ◌<◌, ℕ, true, false, [], Some, length, suc, map, All, IsOk, IsErr, IfOk, IsTrue, OnOk, if◌then◌else◌};
 ghost use Rattle.disk_model.specs.Causes.{Rose};
 ghost use Rattle.disk_model.specs.Marks.{GoesOn};
 ghost use Rattle.volume_layout.specs.Paths.{IsBlockId};
