@@ -7,19 +7,21 @@ use Rattle.std.proofs.lemmas.Map.Views.{tells_apart}
 use Rattle.std.specs.Ordering.{nat_cmp}
 use Rattle.std.specs.BTreeMap.{BTreeMap, Updates, is_at}
 use Rattle.volume_layout.specs.Paths.{IsBlockId}
-use Rattle.map_model.specs.Slots.{File, block, meta, writing_block, writing_meta, temporary_block, temporary_meta, same_file}
+use Rattle.volume_layout.specs.declared.block_file.BlockFile.{BlockFile}
+use Rattle.volume_layout.specs.declared.block_file.BlockFile.TheVariants.{Block, Meta, WritingBlock, WritingMeta, TemporaryBlock, TemporaryMeta}
+use Rattle.volume_layout.specs.BlockFiles.{same_file}
 use Rattle.pool_survey.specs.declared.found.FoundFiles.{FoundFiles}
 use Rattle.pool_survey.specs.Found.{AreStamps, AreBlocks, found_of, metas_of, writing_metas_of}
 use Rattle.pool_survey.specs.Regions.{AreFiles, is_found}
 
 -- nothing was found of a block that isn't there
-pub none_found : (file : File) → IsFalse (is_found None file)
-none_found block = refl
-none_found (meta stamp) = refl
-none_found writing_block = refl
-none_found (writing_meta stamp) = refl
-none_found temporary_block = refl
-none_found (temporary_meta stamp) = refl
+pub none_found : (file : BlockFile) → IsFalse (is_found None file)
+none_found Block = refl
+none_found (Meta stamp) = refl
+none_found WritingBlock = refl
+none_found (WritingMeta stamp) = refl
+none_found TemporaryBlock = refl
+none_found (TemporaryMeta stamp) = refl
 
 or_false : (b : Bool) → (b || false) ≡ b
 or_false true = refl
@@ -45,8 +47,8 @@ module _ (before now : BTreeMap ℕ FoundFiles) (id : ℕ) (files : FoundFiles) 
   elsewhere : (other : ℕ) → other ≢ id → found_of now other ≡ found_of before other
   elsewhere other apart = puts other ∙ rw (ne_eqb other id apart) refl
 
-  pub added : (file : File) → ((other : File) → is_found (Some files) other ≡ (is_found (found_of before id) other || same_file other file)) →
-      (other : ℕ) (name : File) → is_found (found_of now other) name ≡ (is_found (found_of before other) name || ((other == id) && same_file name file))
+  pub added : (file : BlockFile) → ((other : BlockFile) → is_found (Some files) other ≡ (is_found (found_of before id) other || same_file other file)) →
+      (other : ℕ) (name : BlockFile) → is_found (found_of now other) name ≡ (is_found (found_of before other) name || ((other == id) && same_file name file))
   added file adds other name = elim (cases_eq other id) [
     | inl same ↦
         ap (λ found. is_found found name) (here other same) ∙ adds name

@@ -13,7 +13,8 @@ use Rattle.std.proofs.lemmas.List.Folds.{list_any_more}
 use Rattle.std.specs.BTreeMap.{BTreeMap}
 use Rattle.volume_layout.specs.Paths.{IsBlockId}
 use Rattle.disk_model.specs.Names.{IsBelow, IsInOrder}
-use Rattle.map_model.specs.Slots.{File, is_file, name_of, same_file}
+use Rattle.volume_layout.specs.declared.block_file.BlockFile.{BlockFile}
+use Rattle.volume_layout.specs.BlockFiles.{is_file, name_of, same_file}
 use Rattle.pool_survey.specs.declared.naming.Directory.{Directory}
 use Rattle.pool_survey.specs.declared.found.FoundFiles.{FoundFiles}
 use Rattle.pool_survey.specs.Found.{AreBlocks, found_of}
@@ -47,7 +48,7 @@ not_before names i name order within at = false_from_ne_true _ (λ any.
 
 -- what was found of the files of a directory is what the first names name
 abbrev pub AreListed : Directory → ℕ → List (List ℕ) → BTreeMap ℕ FoundFiles → Type 0
-AreListed dir i names blocks = (id : ℕ) → IsBlockId id → (file : File) → IsTrue (is_file file) → IsTrue (is_in dir id file) →
+AreListed dir i names blocks = (id : ℕ) → IsBlockId id → (file : BlockFile) → IsTrue (is_file file) → IsTrue (is_in dir id file) →
     is_found (found_of blocks id) file ≡ list_any (bytes_eq (name_of id file)) (take i names)
 
 pub none_listed : (dir : Directory) (names : List (List ℕ)) (blocks : BTreeMap ℕ FoundFiles) → NoneFound (is_in dir) blocks → AreListed dir 0 names blocks
@@ -69,21 +70,21 @@ module _ (dir : Directory) (names : List (List ℕ)) (i : ℕ) (within : i < len
   one_more test = list_any_more test names i name within ∙ ap (λ n. list_any test (take i names) || test n) (get_or_from_slice_get names i name name at)
 
   -- a name that names no file of the directory
-  pub skipped : ((id : ℕ) → IsBlockId id → (file : File) → IsTrue (is_file file) → IsTrue (is_in dir id file) → name ≢ name_of id file) →
+  pub skipped : ((id : ℕ) → IsBlockId id → (file : BlockFile) → IsTrue (is_file file) → IsTrue (is_in dir id file) → name ≢ name_of id file) →
       AreListed dir (i + 1) names before
   skipped other id valid file is in' =
       listed id valid file is in'
       ∙ sym (one_more (bytes_eq (name_of id file))
       ∙ or_absent _ _ (false_from_ne_true _ (λ same. other id valid file is in' (sym (bytes_exact _ _ same)))))
 
-  module _ (id : ℕ) (file : File) (valid : IsBlockId id) (is : IsTrue (is_file file)) (in' : IsTrue (is_in dir id file)) (names_it : name ≡ name_of id file) where
+  module _ (id : ℕ) (file : BlockFile) (valid : IsBlockId id) (is : IsTrue (is_file file)) (in' : IsTrue (is_in dir id file)) (names_it : name ≡ name_of id file) where
     -- a name that names one, which wasn't found before
     pub fresh : IsInOrder names → IsFalse (is_found (found_of before id) file)
     fresh order =
         listed id valid file is in'
         ∙ ap (λ n. list_any (bytes_eq n) (take i names)) (sym names_it) ∙ not_before names i name order within at
 
-    module _ (added : (other : ℕ) (kind : File) → is_found (found_of now other) kind ≡ (is_found (found_of before other) kind || ((other == id) && same_file kind file))) where
+    module _ (added : (other : ℕ) (kind : BlockFile) → is_found (found_of now other) kind ≡ (is_found (found_of before other) kind || ((other == id) && same_file kind file))) where
       pub listed_more : AreListed dir (i + 1) names now
       listed_more other other_valid kind kind_is kind_in =
           added other kind

@@ -10,7 +10,8 @@ use Rattle.std.specs.BTreeMap.{BTreeMap}
 use Rattle.volume_layout.specs.Paths.{IsBlockId, dir_path, outer_dir, inner_dir}
 use Rattle.disk_model.specs.Worlds.{World, IsListing}
 use Rattle.disk_model.specs.Told.{IsWorldOf, InEachWorld}
-use Rattle.map_model.specs.Slots.{File, is_file, dir_of, name_of}
+use Rattle.volume_layout.specs.declared.block_file.BlockFile.{BlockFile}
+use Rattle.volume_layout.specs.BlockFiles.{is_file, dir_of, name_of}
 use Rattle.map_model.proofs.Directories.{file_listed, listed_file}
 use Rattle.pool_survey.specs.declared.naming.Directory.{Directory}
 use Rattle.pool_survey.specs.declared.naming.Directory.TheVariants.{Finalised}
@@ -37,7 +38,7 @@ listed_by_any name names has = list_any-from_Contains nat_list_eq_equiv name nam
 -- what the listing of a directory names stands there
 pub exact_directory : (dir : Directory) (world : World) (vol : ℕ) (names : List (List ℕ)) (blocks : BTreeMap ℕ FoundFiles) →
     IsListing world vol (directory_path dir) names →
-    ((id : ℕ) → IsBlockId id → (file : File) → IsTrue (is_file file) → IsTrue (is_in dir id file) → is_found (found_of blocks id) file ≡ list_any (bytes_eq (name_of id file)) names) →
+    ((id : ℕ) → IsBlockId id → (file : BlockFile) → IsTrue (is_file file) → IsTrue (is_in dir id file) → is_found (found_of blocks id) file ≡ list_any (bytes_eq (name_of id file)) names) →
     AreExact (is_in dir) world vol blocks
 exact_directory dir world vol names blocks listing listed id valid file is in' =
     let here : IsListing world vol (dir_of id file) names = subst (λ d. IsListing world vol d names) (sym (stands_in dir id file in')) listing in
@@ -50,7 +51,7 @@ exact_directory dir world vol names blocks listing listed id valid file is in' =
 
 -- the files of one more region
 pub exact_more : (region more whole : Region) (world : World) (vol : ℕ) (before now : BTreeMap ℕ FoundFiles) →
-    ((id : ℕ) (file : File) → IsTrue (whole id file) → (more id file ≡ true) ⊎ ((more id file ≡ false) × (region id file ≡ true))) →
+    ((id : ℕ) (file : BlockFile) → IsTrue (whole id file) → (more id file ≡ true) ⊎ ((more id file ≡ false) × (region id file ≡ true))) →
     AreExact region world vol before → AreExact more world vol now → AreSameOutside more before now → AreExact whole world vol now
 exact_more region more whole world vol before now splits old new same id valid file is in' = elim (splits id file in') [
   | inl here ↦ new id valid file is here
@@ -59,7 +60,7 @@ exact_more region more whole world vol before now splits old new same id valid f
 
 -- what was found elsewhere stays
 pub same_more : (region more whole : Region) (first before now : BTreeMap ℕ FoundFiles) →
-    ((id : ℕ) (file : File) → IsFalse (whole id file) → (more id file ≡ false) × (region id file ≡ false)) →
+    ((id : ℕ) (file : BlockFile) → IsFalse (whole id file) → (more id file ≡ false) × (region id file ≡ false)) →
     AreSameOutside region first before → AreSameOutside more before now → AreSameOutside whole first now
 same_more region more whole first before now splits old new id valid file is out =
     let parts = splits id file out in
@@ -67,7 +68,7 @@ same_more region more whole first before now splits old new id valid file is out
 
 -- nothing was found yet in the next region
 pub still_none : (region more whole : Region) (first before : BTreeMap ℕ FoundFiles) →
-    ((id : ℕ) (file : File) → IsTrue (more id file) → (region id file ≡ false) × (whole id file ≡ true)) →
+    ((id : ℕ) (file : BlockFile) → IsTrue (more id file) → (region id file ≡ false) × (whole id file ≡ true)) →
     NoneFound whole first → AreSameOutside region first before → NoneFound more before
 still_none region more whole first before splits none same id valid file is in' =
     let parts = splits id file in' in
@@ -75,11 +76,11 @@ still_none region more whole first before splits none same id valid file is in' 
 
 -- a region that has all files of another
 pub exact_part : (region part : Region) (world : World) (vol : ℕ) (blocks : BTreeMap ℕ FoundFiles) →
-    ((id : ℕ) (file : File) → IsTrue (part id file) → IsTrue (region id file)) → AreExact region world vol blocks → AreExact part world vol blocks
+    ((id : ℕ) (file : BlockFile) → IsTrue (part id file) → IsTrue (region id file)) → AreExact region world vol blocks → AreExact part world vol blocks
 exact_part region part world vol blocks has exact id valid file is in' = exact id valid file is (has id file in')
 
 pub same_part : (region part : Region) (first now : BTreeMap ℕ FoundFiles) →
-    ((id : ℕ) (file : File) → IsFalse (part id file) → IsFalse (region id file)) → AreSameOutside region first now → AreSameOutside part first now
+    ((id : ℕ) (file : BlockFile) → IsFalse (part id file) → IsFalse (region id file)) → AreSameOutside region first now → AreSameOutside part first now
 same_part region part first now has same id valid file is out = same id valid file is (has id file out)
 
 -- ---- one more number, where a test of the others is p
@@ -140,7 +141,7 @@ pub record Surveyed (region : Region) (told : Option (List World)) (vol : ℕ) (
   pub exact : InEachWorld told (λ world. AreExact region world vol blocks)
   pub others : AreSameOutside region first blocks
 
-abbrev row : ℕ → ℕ → File → Bool
+abbrev row : ℕ → ℕ → BlockFile → Bool
 row d1 id file = is_finalised file && (outer_dir id == d1)
 
 pub no_directory : (d1 : ℕ) (told : Option (List World)) (vol : ℕ) (first : BTreeMap ℕ FoundFiles) → AreBlocks first → Surveyed (in_row_before d1 0) told vol first first
@@ -159,8 +160,8 @@ no_row told vol first are = record {
 
 -- one more directory or row
 more : (region next whole : Region) (told told' : Option (List World)) (vol : ℕ) (first before now : BTreeMap ℕ FoundFiles) →
-    ((id : ℕ) (file : File) → IsTrue (whole id file) → (next id file ≡ true) ⊎ ((next id file ≡ false) × (region id file ≡ true))) →
-    ((id : ℕ) (file : File) → IsFalse (whole id file) → (next id file ≡ false) × (region id file ≡ false)) →
+    ((id : ℕ) (file : BlockFile) → IsTrue (whole id file) → (next id file ≡ true) ⊎ ((next id file ≡ false) × (region id file ≡ true))) →
+    ((id : ℕ) (file : BlockFile) → IsFalse (whole id file) → (next id file ≡ false) × (region id file ≡ false)) →
     Surveyed region told vol first before → told' ≡ told → AreBlocks now → InEachWorld told' (λ world. AreExact next world vol now) →
     AreSameOutside next before now → Surveyed whole told' vol first now
 more region next whole told told' vol first before now split out sofar same are exact others = record {
@@ -175,7 +176,7 @@ module _ (d1 d2 : ℕ) (told told' : Option (List World)) (vol : ℕ) (first bef
       still_none (in_row_before d1 d2) (is_in (Finalised d1 d2)) (in_row d1) first before (λ id file. inside (row d1 id file) (inner_dir id) d2) none sofar.others
 
   pub next_directory : told' ≡ told → AreBlocks now → (names : List (List ℕ)) → InEachWorld told' (λ world. IsListing world vol (dir_path d1 d2) names) →
-      ((id : ℕ) → IsBlockId id → (file : File) → IsTrue (is_file file) → IsTrue (is_in (Finalised d1 d2) id file) →
+      ((id : ℕ) → IsBlockId id → (file : BlockFile) → IsTrue (is_file file) → IsTrue (is_in (Finalised d1 d2) id file) →
       is_found (found_of now id) file ≡ list_any (bytes_eq (name_of id file)) names) →
       AreSameOutside (is_in (Finalised d1 d2)) before now → Surveyed (in_row_before d1 (d2 + 1)) told' vol first now
   next_directory same are names listing listed others =

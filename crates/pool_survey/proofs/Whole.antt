@@ -14,7 +14,10 @@ use Rattle.volume_layout.proofs.Reading.{is_stamp-IsStamp}
 use Rattle.disk_model.specs.Worlds.{World, IsListing}
 use Rattle.disk_model.specs.Told.{IsWorldOf, InEachWorld, PicksOne}
 use Rattle.disk_model.proofs.Laws.{has_one}
-use Rattle.map_model.specs.Slots.{File, block, meta, writing_block, writing_meta, temporary_block, temporary_meta, is_file, is_standing, view_of}
+use Rattle.volume_layout.specs.declared.block_file.BlockFile.{BlockFile}
+use Rattle.volume_layout.specs.declared.block_file.BlockFile.TheVariants.{Block, Meta, WritingBlock, WritingMeta, TemporaryBlock, TemporaryMeta}
+use Rattle.volume_layout.specs.BlockFiles.{is_file}
+use Rattle.map_model.specs.Slots.{is_standing, view_of}
 use Rattle.pool_survey.specs.declared.found.FoundFiles.{FoundFiles}
 use Rattle.pool_survey.specs.declared.surveying.Survey.{Survey}
 use Rattle.pool_survey.specs.declared.naming.Directory.TheVariants.{Writing}
@@ -45,21 +48,21 @@ module _ (blocks : BTreeMap ℕ FoundFiles) (empty : blocks.entries ≡ []) wher
   none_at_all region id valid file is in' = ap (λ found. is_found found file) (nothing id) ∙ none_found file
 
 -- a finalised file isn't being written
-other_kind : (file : File) → is_finalised file ≡ true → is_writing file ≡ false
-other_kind block is = refl
-other_kind (meta stamp) is = refl
-other_kind writing_block is = absurd (false≢true is)
-other_kind (writing_meta stamp) is = absurd (false≢true is)
-other_kind temporary_block is = absurd (false≢true is)
-other_kind (temporary_meta stamp) is = absurd (false≢true is)
+other_kind : (file : BlockFile) → is_finalised file ≡ true → is_writing file ≡ false
+other_kind Block is = refl
+other_kind (Meta stamp) is = refl
+other_kind WritingBlock is = absurd (false≢true is)
+other_kind (WritingMeta stamp) is = absurd (false≢true is)
+other_kind TemporaryBlock is = absurd (false≢true is)
+other_kind (TemporaryMeta stamp) is = absurd (false≢true is)
 
-not_finalised : (file : File) → is_writing file ≡ true → is_finalised file ≡ false
-not_finalised block is = absurd (false≢true is)
-not_finalised (meta stamp) is = absurd (false≢true is)
-not_finalised writing_block is = refl
-not_finalised (writing_meta stamp) is = refl
-not_finalised temporary_block is = absurd (false≢true is)
-not_finalised (temporary_meta stamp) is = absurd (false≢true is)
+not_finalised : (file : BlockFile) → is_writing file ≡ true → is_finalised file ≡ false
+not_finalised Block is = absurd (false≢true is)
+not_finalised (Meta stamp) is = absurd (false≢true is)
+not_finalised WritingBlock is = refl
+not_finalised (WritingMeta stamp) is = refl
+not_finalised TemporaryBlock is = absurd (false≢true is)
+not_finalised (TemporaryMeta stamp) is = absurd (false≢true is)
 
 abbrev everywhere : Region
 everywhere id file = true
@@ -71,7 +74,7 @@ none_finalised first now empty same =
 
 -- ---- what was found, and what stands
 
-no_file : (world : World) (id vol : ℕ) (f : File) → is_file f ≡ false → IsFalse (is_standing (view_of world id vol f))
+no_file : (world : World) (id vol : ℕ) (f : BlockFile) → is_file f ≡ false → IsFalse (is_standing (view_of world id vol f))
 unfolding view_of
 no_file world id vol f isnt = rw isnt refl
 
@@ -92,12 +95,12 @@ stamps_exact world vol id stamp stamps standing are none exact = (
 pub is_exact : (world : World) (vol id : ℕ) (blocks : BTreeMap ℕ FoundFiles) → IsBlockId id → AreBlocks blocks →
     AreExact (is_in Writing) world vol blocks → AreExact in_finalised world vol blocks → IsExact world vol id (found_of blocks id)
 is_exact world vol id blocks valid are written finalised = record {
-  block = finalised id valid block refl refl;
-  metas = λ stamp. stamps_exact world vol id stamp (metas_of (found_of blocks id)) (is_standing (view_of world id vol (meta stamp))) (are.metas id)
-      (no_file world id vol (meta stamp)) (λ is. finalised id valid (meta stamp) is refl);
-  writing = written id valid writing_block refl refl;
-  writing_metas = λ stamp. stamps_exact world vol id stamp (writing_metas_of (found_of blocks id)) (is_standing (view_of world id vol (writing_meta stamp)))
-      (are.writing_metas id) (no_file world id vol (writing_meta stamp)) (λ is. written id valid (writing_meta stamp) is refl);
+  block = finalised id valid Block refl refl;
+  metas = λ stamp. stamps_exact world vol id stamp (metas_of (found_of blocks id)) (is_standing (view_of world id vol (Meta stamp))) (are.metas id)
+      (no_file world id vol (Meta stamp)) (λ is. finalised id valid (Meta stamp) is refl);
+  writing = written id valid WritingBlock refl refl;
+  writing_metas = λ stamp. stamps_exact world vol id stamp (writing_metas_of (found_of blocks id)) (is_standing (view_of world id vol (WritingMeta stamp)))
+      (are.writing_metas id) (no_file world id vol (WritingMeta stamp)) (λ is. written id valid (WritingMeta stamp) is refl);
 }
 
 -- what was found in `current/rbw` stays

@@ -1,13 +1,14 @@
 //! What was found of a block.
-ghost use Rattle.std.specs.Prelude.{◌≡◌, ◌||◌, ◌&&◌, ◌==◌, ℕ, Some, OnOk, IsFalse};
-ghost use Rattle.map_model.specs.Slots.{File, same_file};
+ghost use Rattle.std.specs.Prelude.{◌≡◌, ◌||◌, ◌&&◌, ◌==◌, ℕ, Some, OnOk, IsTrue, IsFalse};
+ghost use Rattle.volume_layout.specs.declared.block_file.BlockFile.{BlockFile};
+ghost use Rattle.volume_layout.specs.BlockFiles.{same_file};
 ghost use Rattle.pool_survey.specs.Found.{AreBlocks, found_of};
-ghost use Rattle.pool_survey.specs.Directories.{file_of};
+ghost use Rattle.pool_survey.specs.Directories.{is_looked_for};
 ghost use Rattle.pool_survey.specs.Regions.{AreFiles, is_found};
 
 use std::alloc::{AllocError, Global};
 use std::collections::BTreeMap;
-use volume_layout::{BlockId, Stamp};
+use volume_layout::{BlockFile, BlockId, Stamp};
 
 /// Which files of one block stand on a volume. A finalised file counts only in the block's own directory.
 #[derive(Drop)]
@@ -22,23 +23,10 @@ pub struct FoundFiles {
     pub writing_metas: Vec<Stamp>,
 }
 
-/// A file of a block.
-#[derive(Clone, Copy)]
-pub enum FoundFile {
-    /// The finalised block file.
-    Block,
-    /// A finalised meta file.
-    Meta(Stamp),
-    /// The block file under `current/rbw`.
-    WritingBlock,
-    /// A meta file under `current/rbw`.
-    WritingMeta(Stamp),
-}
-
 impl FoundFiles {
     /// No file at all. It takes no memory.
     pub fn none(alloc: Global) -> FoundFiles
-        ensures none { (file : File) → IsFalse (is_found (Some result) file) }
+        ensures none { (file : BlockFile) → IsFalse (is_found (Some result) file) }
         ensures files { AreFiles (Some result) }
     {
         FoundFiles {
@@ -50,17 +38,19 @@ impl FoundFiles {
     }
 
     /// Adds a file that wasn't found yet.
-    pub fn add(&mut self, file: FoundFile) -> Result<(), AllocError>
+    pub fn add(&mut self, file: BlockFile) -> Result<(), AllocError>
         requires files { AreFiles (Some self.old) }
-        requires fresh { IsFalse (is_found (Some self.old) (file_of file)) }
-        ensures added { OnOk result ((other : File) → is_found (Some self.new) other ≡ (is_found (Some self.old) other || same_file other (file_of file))) }
+        requires looked_for { IsTrue (is_looked_for file) }
+        requires fresh { IsFalse (is_found (Some self.old) file) }
+        ensures added { OnOk result ((other : BlockFile) → is_found (Some self.new) other ≡ (is_found (Some self.old) other || same_file other file)) }
         ensures files { OnOk result (AreFiles (Some self.new)) }
     {
         match file {
-            FoundFile::Block => self.block = true,
-            FoundFile::Meta(stamp) => self.metas.push(stamp)?,
-            FoundFile::WritingBlock => self.writing = true,
-            FoundFile::WritingMeta(stamp) => self.writing_metas.push(stamp)?,
+            BlockFile::Block => self.block = true,
+            BlockFile::Meta(stamp) => self.metas.push(stamp)?,
+            BlockFile::WritingBlock => self.writing = true,
+            BlockFile::WritingMeta(stamp) => self.writing_metas.push(stamp)?,
+            BlockFile::TemporaryBlock | BlockFile::TemporaryMeta(_) => {}
         }
         Ok(())
     }
@@ -71,12 +61,13 @@ pub fn add_file(
     alloc: Global,
     blocks: &mut BTreeMap<u64, FoundFiles>,
     id: BlockId,
-    file: FoundFile,
+    file: BlockFile,
 ) -> Result<(), AllocError>
     requires blocks { AreBlocks blocks.old }
-    requires fresh { IsFalse (is_found (found_of blocks.old id) (file_of file)) }
-    ensures added { OnOk result ((other : ℕ) (name : File) →
-        is_found (found_of blocks.new other) name ≡ (is_found (found_of blocks.old other) name || ((other == id) && same_file name (file_of file)))) }
+    requires looked_for { IsTrue (is_looked_for file) }
+    requires fresh { IsFalse (is_found (found_of blocks.old id) file) }
+    ensures added { OnOk result ((other : ℕ) (name : BlockFile) →
+        is_found (found_of blocks.new other) name ≡ (is_found (found_of blocks.old other) name || ((other == id) && same_file name file))) }
     ensures blocks { OnOk result (AreBlocks blocks.new) }
 {
     if let Some(files) = blocks.get_mut(&id.get()) {

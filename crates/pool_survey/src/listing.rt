@@ -3,7 +3,8 @@ ghost use Rattle.std.specs.Prelude.{◌≡◌, ℕ, IsTrue, OnOk, bytes_eq};
 ghost use Rattle.std.specs.List.{list_any};
 ghost use Rattle.volume_layout.specs.Paths.{IsBlockId};
 ghost use Rattle.disk_model.specs.Names.{IsInOrder};
-ghost use Rattle.map_model.specs.Slots.{File, is_file, name_of};
+ghost use Rattle.volume_layout.specs.declared.block_file.BlockFile.{BlockFile};
+ghost use Rattle.volume_layout.specs.BlockFiles.{is_file, name_of};
 ghost use Rattle.pool_survey.specs.Found.{AreBlocks, found_of};
 ghost use Rattle.pool_survey.specs.Directories.{is_in};
 ghost use Rattle.pool_survey.specs.Regions.{NoneFound, AreSameOutside, is_found};
@@ -25,7 +26,7 @@ pub fn add_names(
     requires blocks { AreBlocks blocks.old }
     requires fresh { NoneFound (is_in dir) blocks.old }
     ensures blocks { OnOk result (AreBlocks blocks.new) }
-    ensures listed { OnOk result ((id : ℕ) → IsBlockId id → (file : File) → IsTrue (is_file file) → IsTrue (is_in dir id file)
+    ensures listed { OnOk result ((id : ℕ) → IsBlockId id → (file : BlockFile) → IsTrue (is_file file) → IsTrue (is_in dir id file)
         → is_found (found_of blocks.new id) file ≡ list_any (bytes_eq (name_of id file)) names.now) }
     ensures others { OnOk result (AreSameOutside (is_in dir) blocks.old blocks.new) }
 {

@@ -1,11 +1,11 @@
 //! The files of blocks that names in a directory name.
 ghost use Rattle.std.specs.Prelude.{◌≡◌, ◌≢◌, ℕ, IfSome, IfNone, IsTrue};
 ghost use Rattle.volume_layout.specs.Paths.{IsBlockId};
-ghost use Rattle.map_model.specs.Slots.{File, is_file, name_of};
+ghost use Rattle.volume_layout.specs.declared.block_file.BlockFile.{BlockFile};
+ghost use Rattle.volume_layout.specs.BlockFiles.{is_file, name_of};
 ghost use Rattle.pool_survey.specs.Directories as directories;
 
-use crate::found::FoundFile;
-use volume_layout::{BlockId, Named, Stamp, place_of, read_name};
+use volume_layout::{BlockFile, BlockId, Named, Stamp, place_of, read_name};
 
 /// A directory in which files of blocks are looked for.
 #[derive(Clone, Copy)]
@@ -31,32 +31,32 @@ impl Directory {
     }
 
     /// A block file in such a directory.
-    fn block_file(self) -> FoundFile
-        ensures { directories.file_of result ≡ directories.block_in self }
+    fn block_file(self) -> BlockFile
+        ensures { result ≡ directories.block_in self }
     {
         match self {
-            Directory::Writing => FoundFile::WritingBlock,
-            Directory::Finalised(_, _) => FoundFile::Block,
+            Directory::Writing => BlockFile::WritingBlock,
+            Directory::Finalised(_, _) => BlockFile::Block,
         }
     }
 
     /// A meta file in such a directory.
-    fn meta_file(self, stamp: Stamp) -> FoundFile
-        ensures { directories.file_of result ≡ directories.meta_in self stamp }
+    fn meta_file(self, stamp: Stamp) -> BlockFile
+        ensures { result ≡ directories.meta_in self stamp }
     {
         match self {
-            Directory::Writing => FoundFile::WritingMeta(stamp),
-            Directory::Finalised(_, _) => FoundFile::Meta(stamp),
+            Directory::Writing => BlockFile::WritingMeta(stamp),
+            Directory::Finalised(_, _) => BlockFile::Meta(stamp),
         }
     }
 }
 
 /// The file of a block that a name in the directory names, where the block's file belongs there.
-pub fn file_named(dir: Directory, name: &str) -> Option<(BlockId, FoundFile)>
-    ensures some { IfSome result (λ found. IsTrue (directories.is_in dir found.0 (directories.file_of found.1))
-        × (name.now ≡ name_of found.0 (directories.file_of found.1))) }
-    ensures valid { IfSome result (λ found. IsBlockId found.0 × IsTrue (is_file (directories.file_of found.1))) }
-    ensures none { IfNone result ((id : ℕ) → IsBlockId id → (file : File) → IsTrue (is_file file)
+pub fn file_named(dir: Directory, name: &str) -> Option<(BlockId, BlockFile)>
+    ensures some { IfSome result (λ found. IsTrue (directories.is_in dir found.0 found.1)
+        × (name.now ≡ name_of found.0 found.1)) }
+    ensures valid { IfSome result (λ found. IsBlockId found.0 × IsTrue (is_file found.1)) }
+    ensures none { IfNone result ((id : ℕ) → IsBlockId id → (file : BlockFile) → IsTrue (is_file file)
         → IsTrue (directories.is_in dir id file) → name.now ≢ name_of id file) }
 {
     match read_name(name) {

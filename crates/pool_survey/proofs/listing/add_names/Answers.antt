@@ -1,7 +1,11 @@
 use Rattle.std.proofs.Common.{◌<◌, ◌+◌, sym, subst}
+use Rattle.pool_survey.proofs.NameLemmas.{looked_for}
 use Rattle.pool_survey.proofs.Listed.{Kept, fresh, skipped, listed_more, same_outside}
 use Rattle.pool_survey.proofs.listing.add_names.Goals as goal
 use Rattle.pool_survey.proofs.listing.add_names.Goals.{in-Some+in_ok-add_file, in_default}
+
+pub add_file-requires-clause-looked_for : goal.add_file-requires-clause-looked_for
+add_file-requires-clause-looked_for c = looked_for c.args.dir _ _ c.in-Some.ensures.some.0
 
 pub add_file-requires-clause-fresh : goal.add_file-requires-clause-fresh
 add_file-requires-clause-fresh c =
