@@ -1,17 +1,15 @@
 //! The last line of the output, and the status.
-ghost use Rattle.std.specs.Prelude.{◌≡◌, ◌≢◌, ◌≤◌, ◌⊎◌};
-ghost use Rattle.std.specs.Io.KnownBytes.{Appends};
+ghost use Rattle.std.specs.Prelude.{◌≡◌, ◌≢◌, ◌≤◌, ◌⊎◌, ℕ, List, Option};
 ghost use Rattle.disk_model.specs.Causes.{Rose};
-ghost use Rattle.line_io.specs.Written.{AppendsFront};
-ghost use Rattle.dn_play.specs.Session.{status_of, Writes};
-ghost use Rattle.dn_play.specs.Answer.{Closed};
+ghost use Rattle.run_end.specs.Ending.{status_of};
+ghost use Rattle.run_end.specs.Closing.{Writes, Closed, Declines};
 
 use crate::ending::Ending;
 use disk_model::Sink;
 use line_io::write_all;
 use std::alloc::Global;
 
-/// The status of a session whose sink failed.
+/// The status of a run whose sink failed.
 const SINK_FAILED: u8 = 3;
 
 /// Writes a last line, and gives the status that it goes with.
@@ -28,15 +26,24 @@ fn end_with<K: Sink>(sink: &mut K, line: &[u8], status: u8) -> u8
     }
 }
 
-/// Writes the last line of an ending, unless it is the sink that failed, and gives the status.
+/// Writes the last line of an ending, if it has one, and gives the status.
 pub fn close<K: Sink>(alloc: Global, ending: Ending, sink: &mut K) -> u8
-    ensures closed { Closed ending (K.taken sink.old) (K.taken sink.new) result }
+    // Behind the text that the run wrote before stands its last line.
+    ensures closed { (taken : Option (List ℕ)) (text : List ℕ) → Writes (status_of ending) taken (K.taken sink.old) text →
+        Closed ending taken (K.taken sink.new) text result }
+    ensures declines { Declines ending (K.taken sink.old) (K.taken sink.new) result }
     ensures status { (result ≡ status_of ending) ⊎ (result ≡ 3) ⊎ (result ≡ 4) }
+    ensures complete { ending ≡ Ending.Complete → result ≡ 0 }
+    // These statuses name their endings.
+    ensures completed { result ≡ 0 → ending ≡ Ending.Complete }
+    ensures usage { result ≡ 1 → ending ≡ Ending.Usage }
+    ensures source { result ≡ 2 → ending ≡ Ending.SourceFault }
     ensures sink { result ≡ 3 → (ending ≡ Ending.SinkFault) ⊎ Rose (K.faults sink.old) (K.faults sink.new) }
+    ensures open { result ≡ 6 → ending ≡ Ending.OpenFault }
     ensures later { K.faults sink.old ≤ K.faults sink.new }
 {
-    if let Ending::SinkFault = ending {
-        return SINK_FAILED;
+    if let Ending::SinkFault | Ending::Complete = ending {
+        return ending.status();
     }
     match ending.last_line(alloc) {
         Ok(line) => end_with(sink, line.as_bytes(), ending.status()),

@@ -1,10 +1,12 @@
-//! How a session ends.
+//! How a run ends.
 ghost use Rattle.std.specs.Prelude.{◌≡◌, IfOk, string_bytes};
-ghost use Rattle.dn_play.specs.Session.{status_of, last_line};
+ghost use Rattle.line_io.specs.declared.lines.ReadFault.TheVariants.{Source};
+ghost use Rattle.run_end.specs.Ending.{status_of, last_line, ending_at, IsOfReading};
 
+use line_io::ReadFault;
 use std::alloc::{AllocError, Global};
 
-/// Why a session ended.
+/// Why a run ended.
 #[derive(Clone, Copy, Debug, PartialEq, Eq)]
 pub enum Ending {
     /// The input was read to its end.
@@ -17,20 +19,40 @@ pub enum Ending {
     SinkFault,
     /// There was no memory.
     NoMemory,
-    /// This line is outside the language, from a column on.
+    /// This line is outside the language, from a column on. Both are counted from 1.
     Outside { line: u64, column: u64 },
     /// The disks failed while the pool was opened.
     OpenFault,
-    /// This line passes a limit.
+    /// This line, counted from 1, passes a limit.
     Limit { line: u64 },
-    /// This line, or where it is 0 the words or the pool's files, isn't carried out yet.
+    /// This line, counted from 1, isn't carried out yet.
     Later { line: u64 },
+    /// What the words or the pool's files ask for isn't carried out yet.
+    NotCarriedOut,
 }
 
 impl Ending {
+    /// How the lines end of which this one can't be read.
+    pub fn of_read(fault: ReadFault, line: u64) -> Ending
+        ensures ending { result ≡ ending_at fault line }
+        ensures reading { IsOfReading result }
+        ensures source { result ≡ Ending.SourceFault → fault ≡ Source }
+    {
+        match fault {
+            ReadFault::Source => Ending::SourceFault,
+            ReadFault::Limit => Ending::Limit { line },
+            ReadFault::Memory => Ending::NoMemory,
+        }
+    }
+
     /// The status that the program ends with.
     pub fn status(self) -> u8
-        ensures { result ≡ status_of self }
+        ensures status { result ≡ status_of self }
+        ensures complete { result ≡ 0 → self ≡ Ending.Complete }
+        ensures usage { result ≡ 1 → self ≡ Ending.Usage }
+        ensures source { result ≡ 2 → self ≡ Ending.SourceFault }
+        ensures sink { result ≡ 3 → self ≡ Ending.SinkFault }
+        ensures open { result ≡ 6 → self ≡ Ending.OpenFault }
     {
         match self {
             Ending::Complete => 0,
@@ -41,7 +63,7 @@ impl Ending {
             Ending::Outside { .. } => 5,
             Ending::OpenFault => 6,
             Ending::Limit { .. } => 7,
-            Ending::Later { .. } => 8,
+            Ending::Later { .. } | Ending::NotCarriedOut => 8,
         }
     }
 
@@ -58,6 +80,7 @@ impl Ending {
             Ending::OpenFault => format!(in alloc; "end open\n"),
             Ending::Limit { line } => format!(in alloc; "end limit {line}\n"),
             Ending::Later { line } => format!(in alloc; "end later {line}\n"),
+            Ending::NotCarriedOut => format!(in alloc; "end later 0\n"),
         }
     }
 }
