@@ -7,7 +7,7 @@ ghost use Rattle.std.specs.Prelude.{◌≡◌, ◌≤◌, IfOk, length};
 use disk_model::Sink;
 use dn_play::play;
 use line_io::write_all;
-use os_disks::{OsDisks, StandardSink, StandardSource};
+use os_disks::{OsDisks, StandardSink, StandardSource, VolumeLocks};
 use script_lang::node_words::{NodeWords, VolumeWord, WordsFault, read_words};
 use std::alloc::{AllocError, Global};
 use std::env;
@@ -51,15 +51,16 @@ fn directories(alloc: Global, volumes: &[VolumeWord]) -> Result<Vec<&str>, Alloc
     Ok(dirs)
 }
 
-/// The disks of each pool.
+/// The disks of each pool, which share the locks of the volumes.
 fn open_disks(rt: &HostRuntime, words: &NodeWords) -> Result<Vec<OsDisks>, AllocError>
     requires some { 1 ≤ length words.now.volumes }
     requires limit { length words.now.volumes ≤ 64 }
 {
     let dirs = directories(rt.alloc(), words.volumes.as_slice())?;
+    let locks = VolumeLocks::take(rt, dirs.as_slice())?;
     let mut disks = Vec::new(rt.alloc());
     for pool in words.pools.as_slice() {
-        disks.push(OsDisks::open(rt.clone()?, pool.as_str(), dirs.as_slice())?)?;
+        disks.push(OsDisks::open(rt.clone()?, pool.as_str(), dirs.as_slice(), &locks)?)?;
     }
     Ok(disks)
 }

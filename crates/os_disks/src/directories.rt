@@ -1,31 +1,40 @@
 //! The disks of a pool over real directories, one for each volume.
 //!
-//! The pool's files stand on a volume under `current/POOL`, and below that at the paths of the calls. Trusted is what
-//! `durable` and `os_files` say of the system, and that nobody else changes these directories. Nothing is told of what
-//! they hold; each failed call, and each file that was looked for and absent, is counted.
-ghost use Rattle.std.specs.Prelude.{◌≡◌, ◌≤◌, None, IfOk, IsTrue, All, length};
+//! The pool's files stand on a volume under `current/POOL`, and below that at the paths of the calls. Nothing is read,
+//! made or removed there but while the locks of all volumes are held. No link below the volume's own directory is
+//! followed, and no file is written but one that `create` made. Trusted is what `volume_locks`, `durable` and `os_files`
+//! say of the system, and that nobody else changes these directories. Nothing is told of what they hold; each failed
+//! call, and each file that was looked for and absent, is counted.
+ghost use Rattle.std.specs.Prelude.{◌≡◌, ◌≤◌, None, IsOk, IfOk, IsTrue, All, length};
 ghost use Rattle.disk_model.specs.Names.{IsBelow, IsInOrder};
 ghost use Rattle.disk_model.specs.Causes.{Rose};
 ghost use Rattle.disk_model.specs.Untold.{untold_is_disk, untold_stands_within, untold_leaves_nothing};
 
-use crate::durable;
+use crate::open_directory::file_names;
 use crate::os_files::{OsDraft, OsReader, OsSealed};
+use crate::volume_locks::VolumeLocks;
+use crate::{durable, kinds};
 use disk_model::{DiskError, Failed, Names, PoolDisks};
 use std::alloc::{AllocError, Global};
-use std::fs::File;
 use std::io::ErrorKind;
-use std::{fs, io, mem};
+use std::mem;
+use std::sync::Arc;
 
 /// The longest path of a call, in bytes.
 const LONGEST_PATH: usize = 96;
+
+/// How many bytes of a directory's names are read at once.
+const LISTING_BYTES: usize = 32768;
 
 /// The disks of one pool.
 #[derive(Drop)]
 pub struct OsDisks {
     rt: HostRuntime,
+    locks: Arc<VolumeLocks>,
     roots: Vec<String>,
     path: String,
     other: String,
+    listing: Vec<u8>,
     next_number: u64,
     faults: u64,
     absences: u64,
@@ -45,11 +54,12 @@ fn pool_roots(alloc: Global, pool: &str, dirs: &[&str]) -> Result<Vec<String>, A
     Ok(roots)
 }
 
-/// Makes the directories that are absent, and answers whether all stand.
-fn make_all(rt: &HostRuntime, roots: &[String]) -> bool {
+/// Makes the pool's directories that are absent below those of the volumes, and answers whether all stand.
+fn make_all(rt: &HostRuntime, roots: &[String], dirs: &[&str]) -> bool {
     let mut are_made = true;
-    for root in roots {
-        are_made = durable::make_directory(rt, root.as_str()).is_ok() && are_made;
+    for (root, dir) in roots.iter().zip(dirs) {
+        let below = dir.len().saturating_add(1);
+        are_made = durable::make_below(rt, root.as_str(), below).is_ok() && are_made;
     }
     are_made
 }
@@ -60,46 +70,30 @@ fn path_buffer(alloc: Global, roots: &[String]) -> Result<String, AllocError> {
     String::with_capacity(alloc, longest.saturating_add(LONGEST_PATH + 2))
 }
 
-/// Puts the real path of a pool's file into a buffer. It takes no memory beyond that of the buffer.
-fn join(buffer: &mut String, roots: &[String], vol: u8, path: &str) -> Result<(), Failed> {
+/// Puts the real path of a pool's file into a buffer, and answers from which byte on the path is the pool's. It takes no
+/// memory beyond that of the buffer. Where the locks aren't held there is no path.
+fn join(
+    buffer: &mut String,
+    locks: &VolumeLocks,
+    roots: &[String],
+    vol: u8,
+    path: &str,
+) -> Result<usize, Failed>
+    ensures held { IsOk result → length locks.now.locked.items ≡ locks.now.volumes }
+{
     buffer.clear();
     let Some(root) = roots.get(usize::from(vol).wrapping_sub(1)) else {
         return Err(Failed);
     };
-    if path.len() > LONGEST_PATH
+    if !locks.are_held()
+        || path.len() > LONGEST_PATH
         || buffer.push_str(root.as_str()).is_err()
         || buffer.push('/').is_err()
         || buffer.push_str(path).is_err()
     {
         return Err(Failed);
     }
-    Ok(())
-}
-
-/// Want of memory, or a call that failed.
-fn disk_error(error: io::Error) -> DiskError {
-    if error.kind() == ErrorKind::OutOfMemory {
-        DiskError::Memory
-    } else {
-        DiskError::Failed
-    }
-}
-
-/// The names of the files of a directory, in no order. Those of other things, as directories, are passed over.
-fn file_names(rt: &HostRuntime, alloc: Global, dir: &str) -> Result<Vec<String>, DiskError> {
-    let mut names = Vec::new(alloc);
-    let entries = match fs::read_dir(rt, dir) {
-        Ok(entries) => entries,
-        Err(error) if error.kind() == ErrorKind::NotFound => return Ok(names),
-        Err(error) => return Err(disk_error(error)),
-    };
-    for entry in entries {
-        let entry = entry.map_err(disk_error)?;
-        if entry.file_type().map_err(disk_error)?.is_file() {
-            names.push(String::from_str(alloc, entry.file_name())?)?;
-        }
-    }
-    Ok(names)
+    Ok(root.len().saturating_add(1))
 }
 
 /// Whether a name comes after the last of these, and so after all.
@@ -128,23 +122,34 @@ fn in_order(alloc: Global, mut texts: Vec<String>) -> Result<Names, AllocError>
 }
 
 impl OsDisks {
-    /// The disks of a pool on volumes in these directories, in which its own are made where they are absent. Where one
-    /// can't be made the first listing fails.
-    pub fn open(rt: HostRuntime, pool: &str, dirs: &[&str]) -> Result<OsDisks, AllocError>
+    /// The disks of a pool on volumes in these directories, whose locks are these. The pool's own directories are made
+    /// where they are absent. Where one can't be made the first listing fails; where the locks aren't held none is made,
+    /// and each call that names a file or a directory fails.
+    pub fn open(
+        rt: HostRuntime,
+        pool: &str,
+        dirs: &[&str],
+        locks: &Arc<VolumeLocks>,
+    ) -> Result<OsDisks, AllocError>
         requires some { 1 ≤ length dirs.now }
         requires limit { length dirs.now ≤ 64 }
         ensures volumes { IfOk result (λ disks. ⟦<OsDisks as PoolDisks>⟧.volume_count disks ≡ length dirs.now) }
     {
         let alloc = rt.alloc();
+        let locks = locks.clone()?;
         let roots = pool_roots(alloc, pool, dirs)?;
         let path = path_buffer(alloc, roots.as_slice())?;
         let other = path_buffer(alloc, roots.as_slice())?;
-        let is_unmade = !make_all(&rt, roots.as_slice());
+        let mut listing = Vec::new(alloc);
+        listing.resize(LISTING_BYTES, 0)?;
+        let is_unmade = !(locks.are_held() && make_all(&rt, roots.as_slice(), dirs));
         Ok(OsDisks {
             rt,
+            locks,
             roots,
             path,
             other,
+            listing,
             next_number: 0,
             faults: 0,
             absences: 0,
@@ -209,23 +214,35 @@ impl PoolDisks for OsDisks {
 
     fn list(&mut self, alloc: Global, vol: u8, dir: &str) -> Result<Names, DiskError> {
         let is_unmade = mem::replace(&mut self.is_unmade, false);
-        if is_unmade || join(&mut self.path, self.roots.as_slice(), vol, dir).is_err() {
+        let joined = join(&mut self.path, &self.locks, self.roots.as_slice(), vol, dir);
+        let Ok(below) = joined else {
+            return Err(self.fail_disk());
+        };
+        if is_unmade {
             return Err(self.fail_disk());
         }
-        match file_names(&self.rt, alloc, self.path.as_str()) {
+        let (scratch, buffer) = (&mut self.other, self.listing.as_mut_slice());
+        match file_names(&self.rt, alloc, self.path.as_str(), below, scratch, buffer) {
             Ok(names) => Ok(in_order(alloc, names)?),
-            Err(DiskError::Memory) => Err(DiskError::Memory),
-            Err(DiskError::Failed) => Err(self.fail_disk()),
+            Err(error) if error.kind() == ErrorKind::OutOfMemory => Err(DiskError::Memory),
+            Err(_) => Err(self.fail_disk()),
         }
     }
 
     fn size(&mut self, vol: u8, path: &str) -> Result<Option<u64>, Failed> {
-        if join(&mut self.path, self.roots.as_slice(), vol, path).is_err() {
+        let joined = join(
+            &mut self.path,
+            &self.locks,
+            self.roots.as_slice(),
+            vol,
+            path,
+        );
+        let Ok(below) = joined else {
             return Err(self.fail());
-        }
-        match fs::metadata(&self.rt, self.path.as_str()) {
-            Ok(metadata) => Ok(Some(metadata.len())),
-            Err(error) if error.kind() == ErrorKind::NotFound => {
+        };
+        match kinds::find_below(&self.rt, self.path.as_str(), below) {
+            Ok(Some(metadata)) => Ok(Some(metadata.len())),
+            Ok(None) => {
                 self.absences = self.absences.saturating_add(1);
                 Ok(None)
             }
@@ -240,11 +257,21 @@ impl PoolDisks for OsDisks {
         path: &str,
     ) -> Result<Option<OsReader>, DiskError> {
         let number = self.next_number;
-        if number == u64::MAX || join(&mut self.path, self.roots.as_slice(), vol, path).is_err() {
+        let joined = join(
+            &mut self.path,
+            &self.locks,
+            self.roots.as_slice(),
+            vol,
+            path,
+        );
+        let Ok(below) = joined else {
+            return Err(self.fail_disk());
+        };
+        if number == u64::MAX {
             return Err(self.fail_disk());
         }
-        match File::open(&self.rt, self.path.as_str()) {
-            Ok(file) => {
+        match kinds::open_file(&self.rt, self.path.as_str(), below) {
+            Ok(Some(file)) => {
                 self.next_number += 1;
                 Ok(Some(OsReader {
                     number,
@@ -252,7 +279,7 @@ impl PoolDisks for OsDisks {
                     faults: 0,
                 }))
             }
-            Err(error) if error.kind() == ErrorKind::NotFound => {
+            Ok(None) => {
                 self.absences = self.absences.saturating_add(1);
                 Ok(None)
             }
@@ -262,11 +289,21 @@ impl PoolDisks for OsDisks {
 
     fn create(&mut self, alloc: Global, vol: u8, path: &str) -> Result<OsDraft, DiskError> {
         let number = self.next_number;
-        if number == u64::MAX || join(&mut self.path, self.roots.as_slice(), vol, path).is_err() {
+        let joined = join(
+            &mut self.path,
+            &self.locks,
+            self.roots.as_slice(),
+            vol,
+            path,
+        );
+        let Ok(below) = joined else {
+            return Err(self.fail_disk());
+        };
+        if number == u64::MAX {
             return Err(self.fail_disk());
         }
         let path = String::from_str(alloc, path)?;
-        let Ok(file) = durable::create(&self.rt, self.path.as_str()) else {
+        let Ok(file) = durable::create(&self.rt, self.path.as_str(), below) else {
             return Err(self.fail_disk());
         };
         self.next_number += 1;
@@ -283,9 +320,25 @@ impl PoolDisks for OsDisks {
             path: from,
             ..
         } = sealed;
-        if join(&mut self.path, self.roots.as_slice(), vol, from.as_str()).is_err()
-            || join(&mut self.other, self.roots.as_slice(), vol, path).is_err()
-            || durable::rename(&self.rt, self.path.as_str(), self.other.as_str()).is_err()
+        let joined = join(
+            &mut self.path,
+            &self.locks,
+            self.roots.as_slice(),
+            vol,
+            from.as_str(),
+        );
+        let Ok(below) = joined else {
+            return Err(self.fail());
+        };
+        if join(
+            &mut self.other,
+            &self.locks,
+            self.roots.as_slice(),
+            vol,
+            path,
+        )
+        .is_err()
+            || durable::rename(&self.rt, self.path.as_str(), self.other.as_str(), below).is_err()
         {
             return Err(self.fail());
         }
@@ -293,9 +346,17 @@ impl PoolDisks for OsDisks {
     }
 
     fn remove(&mut self, vol: u8, path: &str) -> Result<(), Failed> {
-        if join(&mut self.path, self.roots.as_slice(), vol, path).is_err()
-            || durable::remove(&self.rt, self.path.as_str()).is_err()
-        {
+        let joined = join(
+            &mut self.path,
+            &self.locks,
+            self.roots.as_slice(),
+            vol,
+            path,
+        );
+        let Ok(below) = joined else {
+            return Err(self.fail());
+        };
+        if durable::remove(&self.rt, self.path.as_str(), below).is_err() {
             return Err(self.fail());
         }
         Ok(())

@@ -4,9 +4,10 @@
 //! was synced. No clause says anything of what real directories hold.
 ghost use Rattle.std.specs.Prelude.{◌≡◌};
 
+use crate::kinds::has_way;
 use std::fs;
 use std::fs::{Files, OpenFile, OpenOptions};
-use std::io::{ErrorKind, Result};
+use std::io::{Error, ErrorKind, Result};
 
 /// The directory that a path stands in.
 fn parent(path: &str) -> &str {
@@ -22,9 +23,14 @@ fn sync_directory<R: Files>(rt: &R, path: &str) -> Result<()> {
     OpenOptions::new().read(true).open(rt, path)?.sync_all()
 }
 
-/// Whether a directory stands at the path.
-fn is_directory<R: Files>(rt: &R, path: &str) -> bool {
-    match fs::metadata(rt, path) {
+/// Whether a directory stands at the path, or, where links are followed, is what one leads to.
+fn is_directory<R: Files>(rt: &R, path: &str, are_followed: bool) -> bool {
+    let found = if are_followed {
+        fs::metadata(rt, path)
+    } else {
+        fs::symlink_metadata(rt, path)
+    };
+    match found {
         Ok(metadata) => metadata.is_dir(),
         Err(_) => false,
     }
@@ -32,10 +38,10 @@ fn is_directory<R: Files>(rt: &R, path: &str) -> bool {
 
 /// Makes a directory where it is absent. One whose name can't be synced is taken away again, so that no later call
 /// takes it for one that lasts.
-fn make_one(rt: &impl Files, path: &str) -> Result<()> {
+fn make_one(rt: &impl Files, path: &str, are_followed: bool) -> Result<()> {
     match fs::create_dir(rt, path) {
         Ok(()) => {}
-        Err(_) if is_directory(rt, path) => return Ok(()),
+        Err(_) if is_directory(rt, path, are_followed) => return Ok(()),
         Err(error) => return Err(error),
     }
     let synced = sync_directory(rt, parent(path));
@@ -45,55 +51,77 @@ fn make_one(rt: &impl Files, path: &str) -> Result<()> {
     synced
 }
 
-/// Makes a directory where it is absent, and first those that it stands in.
-pub fn make_directory<R: Files>(rt: &R, path: &str) -> Result<()> {
-    for end in 1..path.len() {
+/// Makes the directories of a path that are absent, those above first: all that it names behind its first `from` bytes.
+fn make_from<R: Files>(rt: &R, path: &str, from: usize, are_followed: bool) -> Result<()> {
+    for end in from..path.len() {
         match path.split_at_checked(end) {
-            Some((above, rest)) if rest.starts_with('/') => make_one(rt, above)?,
+            Some((above, rest)) if rest.starts_with('/') => make_one(rt, above, are_followed)?,
             _ => {}
         }
     }
-    make_one(rt, path)
+    make_one(rt, path, are_followed)
 }
 
-/// Makes an empty file in place of one that stands there. Its directory is made where it is absent.
-pub fn create<R: Files>(rt: &R, path: &str) -> Result<R::File> {
-    let file = match fs::create(rt, path) {
-        Ok(file) => file,
-        Err(error) if error.kind() == ErrorKind::NotFound => {
-            make_directory(rt, parent(path))?;
-            fs::create(rt, path)?
+/// Makes a directory where it is absent, and first those that it stands in. Links to directories do.
+pub fn make_directory<R: Files>(rt: &R, path: &str) -> Result<()> {
+    make_from(rt, path, 1, true)
+}
+
+/// Makes a directory where it is absent, and first those that its path names behind its first `below` bytes. A link
+/// there is an error.
+pub fn make_below<R: Files>(rt: &R, path: &str, below: usize) -> Result<()> {
+    make_from(rt, path, below, false)
+}
+
+/// Makes an empty file at a free name, and fails at any other: the system neither follows nor opens what stands there.
+fn create_new<R: Files>(rt: &R, path: &str) -> Result<R::File> {
+    OpenOptions::new()
+        .write(true)
+        .create_new(true)
+        .open(rt, path)
+}
+
+/// Makes an empty file in place of what stands at its name, which is taken away and not opened. The directories that
+/// its path names behind its first `below` bytes are made where they are absent.
+///
+/// Where something stood there, a crash between the two steps leaves neither.
+pub fn create<R: Files>(rt: &R, path: &str, below: usize) -> Result<R::File> {
+    if !has_way(rt, path, below)? {
+        make_below(rt, parent(path), below)?;
+    }
+    let file = match create_new(rt, path) {
+        Err(error) if error.kind() == ErrorKind::AlreadyExists => {
+            fs::remove_file(rt, path)?;
+            create_new(rt, path)?
         }
-        Err(error) => return Err(error),
+        made => made?,
     };
     sync_directory(rt, parent(path))?;
     Ok(file)
 }
 
-/// Gives a file another name, in place of the file that had it. The other name's directory is made where it is absent.
-pub fn rename<R: Files>(rt: &R, from: &str, to: &str) -> Result<()> {
-    match fs::rename(rt, from, to) {
-        Ok(()) => {}
-        Err(error) if error.kind() == ErrorKind::NotFound => {
-            make_directory(rt, parent(to))?;
-            fs::rename(rt, from, to)?;
-        }
-        Err(error) => return Err(error),
+/// Gives a file another name, in place of what had it. The directories that the other name's path names behind its first
+/// `below` bytes are made where they are absent; all that either path names there are directories, and no links.
+pub fn rename<R: Files>(rt: &R, from: &str, to: &str, below: usize) -> Result<()> {
+    if !has_way(rt, from, below)? {
+        return Err(Error::from(ErrorKind::NotFound));
     }
+    if !has_way(rt, to, below)? {
+        make_below(rt, parent(to), below)?;
+    }
+    fs::rename(rt, from, to)?;
     sync_directory(rt, parent(to))?;
     sync_directory(rt, parent(from))
 }
 
-/// Takes a file away. One that is absent is taken for one that an earlier call took away, perhaps without a sync.
-pub fn remove<R: Files>(rt: &R, path: &str) -> Result<()> {
-    let removed = fs::remove_file(rt, path);
-    if let Err(error) = removed {
-        if error.kind() != ErrorKind::NotFound {
-            return Err(error);
-        }
+/// Takes a name away, and not what a link there leads to. One that is absent is taken for one that an earlier call took
+/// away, perhaps without a sync.
+pub fn remove<R: Files>(rt: &R, path: &str, below: usize) -> Result<()> {
+    if !has_way(rt, path, below)? {
+        return Ok(());
     }
-    match sync_directory(rt, parent(path)) {
-        Err(error) if error.kind() == ErrorKind::NotFound => Ok(()),
-        synced => synced,
+    match fs::remove_file(rt, path) {
+        Err(error) if error.kind() != ErrorKind::NotFound => Err(error),
+        _ => sync_directory(rt, parent(path)),
     }
 }

@@ -4,9 +4,13 @@
 
 mod directories;
 mod durable;
+mod kinds;
+mod open_directory;
 mod os_files;
 mod standard_streams;
+mod volume_locks;
 
 pub use directories::OsDisks;
 pub use os_files::{OsDraft, OsReader, OsSealed};
 pub use standard_streams::{StandardSink, StandardSource};
+pub use volume_locks::VolumeLocks;

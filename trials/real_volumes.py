@@ -1,0 +1,391 @@
+#!/usr/bin/env python3
+"""Runs `dnplay` over directories in which other things stand than it makes, and beside other processes.
+
+    python3 checks/real_volumes.py [PROGRAM]
+
+It wants the program that `rt run` in `crates/dnplay` builds. A volume that another process has locked, or whose lock can't
+be taken, is left as it is, file by file. Links, FIFOs, sockets, devices, directories and files with further names, at each
+name where the program makes or reads one, are neither followed nor opened nor written: what stands outside of the volume
+stays as it was, and no line waits for another process. On a file system that is full, what was answered before is there.
+Each run is compared with the replies and the status that it must have; it ends with a line of what was run, or with the
+first difference. Devices are made by root alone, and a small file system is mounted by root alone: without, both are left
+out, and the last line says so.
+"""
+
+import fcntl
+import itertools
+import os
+import pathlib
+import shutil
+import socket
+import stat
+import subprocess
+import sys
+import tempfile
+
+CRATE = pathlib.Path(__file__).resolve().parent.parent / "crates" / "dnplay"
+PROGRAM = pathlib.Path(sys.argv[1] if len(sys.argv) > 1 else CRATE / "out" / "dnplay").resolve()
+REFUSED = (["end open"], 6)
+NOBODY = 65534
+PLACE = "current/finalized/subdir0/subdir0"
+CONTENT = "68656c6c6f"
+DATA = f"data 1001 {CONTENT}"
+WRITE = f"write 5 1001 {CONTENT}"
+
+
+class Run:
+    """A run of the program that goes on, line by line."""
+
+    def __init__(self, volume, pools="bp1", **options):
+        words = [str(PROGRAM), pools, "DN-1", *(f"DS-{i}:100000:{dir}" for i, dir in enumerate(volume, 1))]
+        self.run = subprocess.Popen(words, stdin=subprocess.PIPE, stdout=subprocess.PIPE, **options)
+
+    def reply(self, line):
+        self.run.stdin.write(line.encode() + b"\n")
+        self.run.stdin.flush()
+        return self.run.stdout.readline().decode().rstrip("\n")
+
+    def end(self, lines=()):
+        """The further replies, and the status. A run that waits for another process is a fault."""
+        text = "".join(line + "\n" for line in lines).encode()
+        try:
+            written, _ = self.run.communicate(text, timeout=60)
+        except subprocess.TimeoutExpired:
+            self.run.kill()
+            sys.exit(f"{lines}: the run waits")
+        return written.decode().split("\n")[:-1], self.run.returncode
+
+
+def played(volume, lines, pools="bp1", **options):
+    return Run([volume], pools, **options).end(lines)
+
+
+def want(what, found, wanted):
+    if found != wanted:
+        sys.exit(f"{what}: {found}, and not {wanted}")
+
+
+def tree(directory):
+    """Each name below a directory, with all that tells whether it was changed or written."""
+    found = {}
+    for path in [directory, *sorted(directory.rglob("*"))]:
+        about = path.lstat()
+        content = os.readlink(path) if path.is_symlink() else None
+        # a lock of this process would be lost where it closes a file that it opened at the lock's name
+        if stat.S_ISREG(about.st_mode) and path.name != "in_use.lock":
+            content = path.read_bytes()
+        found[str(path)] = (about.st_ino, about.st_mode, about.st_size, about.st_mtime_ns, content)
+    return found
+
+
+def stored(directory, lines=(WRITE,)):
+    """A volume in which the program stored block 5."""
+    want("a first run", played(directory, lines), (["ok"] * len(lines), 0))
+    return directory
+
+
+# Locks
+
+
+def try_lock(path, kind=fcntl.LOCK_EX):
+    """A file with the lock that an HDFS DataNode takes, or None where another process has it."""
+    file = open(path, "r+b")
+    try:
+        fcntl.lockf(file, kind | fcntl.LOCK_NB)
+    except OSError:
+        file.close()
+        return None
+    return file
+
+
+def check_locks(room):
+    volume = stored(room / "v")
+    want("the lock's file", (volume / "in_use.lock").stat().st_size, 0)
+    for kind in [fcntl.LOCK_EX, fcntl.LOCK_SH]:
+        held = try_lock(volume / "in_use.lock", kind)
+        before = tree(volume)
+        for pools in ["bp1", "bp2"]:
+            want("a locked volume", played(volume, ["read 5"], pools), REFUSED)
+        want("the tree of a locked volume", tree(volume), before)
+        held.close()
+    want("a volume after its lock", played(volume, ["read 5"]), ([DATA], 0))
+
+    empty, other = room / "empty", room / "other"
+    empty.mkdir()
+    (empty / "in_use.lock").touch()
+    held = try_lock(empty / "in_use.lock")
+    before = tree(empty)
+    want("a locked volume without files", played(empty, ["read 5"]), REFUSED)
+    for dirs in [[empty, other], [other, empty]]:
+        Run(dirs).end(["read 5"])
+        want("a locked volume beside another", tree(empty), before)
+        want("a volume beside a locked one", [at for at in sorted(other.rglob("*")) if at.name != "in_use.lock"], [])
+    held.close()
+
+
+def check_two_runs(room):
+    volume = room / "v"
+    first = Run([volume])
+    want("the first run", first.reply("open 5 1001 5"), "ok")
+    want("the first run", first.reply("push 5 6865"), "ok")
+    want("its lock as another process sees it", try_lock(volume / "in_use.lock"), None)
+    before = tree(volume)
+    want("the second run", played(volume, ["delete 5"]), REFUSED)
+    (room / "link").symlink_to("v")
+    want("the second run through a link", played(room / "link", ["delete 5"]), REFUSED)
+    want("the second run by two names", Run([room / "w", room / "w/../w"]).end(["read 5"])[1] in (6, 8), True)
+    want("the tree of the first run", tree(volume), before)
+    want("the first run", first.end(["push 5 6c6c6f", "finish 5", "read 5"]), (["ok", "ok", DATA], 0))
+    want("the next run", played(volume, ["read 5"]), ([DATA], 0))
+    lock = try_lock(volume / "in_use.lock")
+    want("the lock after the runs", lock is None, False)
+    lock.close()
+    killed = Run([volume])
+    want("a run that is killed", killed.reply("read 5"), DATA)
+    killed.run.kill()
+    killed.run.wait()
+    want("the run after one that was killed", played(volume, ["read 5"]), ([DATA], 0))
+
+
+# Directories in which nothing can be made, and streams that are closed
+
+
+def check_directories(room):
+    file = room / "file"
+    file.write_bytes(b"kept")
+    for volume in [file, file / "below"]:
+        want("a directory that is a file", played(volume, ["read 5"]), REFUSED)
+    want("the file", file.read_bytes(), b"kept")
+
+    for kind, make in KINDS.items():
+        if kind == "hard link":
+            continue
+        outside = Outside(room / f"outside {kind}", room / "file")
+        volume = room / f"v {kind}"
+        volume.mkdir()
+        if make(volume / "in_use.lock", outside):
+            before = tree(volume)
+            want(f"a {kind} as the lock's file", played(volume, ["read 5"]), REFUSED)
+            want(f"a volume with a {kind} as the lock's file", tree(volume), before)
+            outside.compare(f"a {kind} as the lock's file")
+
+    closed = stored(room / "closed")
+    for number, wanted in [(0, ([DATA][:0] + ["end source"], 2)), (1, ([], 3))]:
+        run = subprocess.run(
+            ["sh", "-c", f'exec "$@" {number}{"<>"[number]}&-', "", str(PROGRAM), "bp1", "DN-1", f"DS-1:100000:{closed}"],
+            input="".join(f"open {i} 1001 9\n" for i in range(10, 20)).encode(), capture_output=True, timeout=60)
+        want(f"a run without stream {number}", (run.stdout.decode().split("\n")[:-1], run.returncode), wanted)
+    for file in closed.rglob("blk_1*"):
+        want("a file of a run whose output is closed", file.read_bytes()[7 * file.name.endswith("meta"):], b"")
+
+    if os.getuid() == 0:
+        user = {"user": NOBODY, "group": NOBODY, "extra_groups": []}
+    else:
+        user = {}
+    sealed = room / "sealed"
+    sealed.mkdir(mode=0o555)
+    before = tree(sealed)
+    for volume in [sealed, sealed / "below"]:
+        want("a directory that isn't writable", played(volume, ["read 5"], **user), REFUSED)
+    want("the directory that isn't writable", tree(sealed), before)
+
+
+# A file system that is full
+
+
+def check_full(room):
+    volume = room / "full"
+    volume.mkdir()
+    mounted = subprocess.run(["mount", "-t", "tmpfs", "-o", "size=256k", "tmpfs", str(volume)], capture_output=True)
+    if mounted.returncode:
+        return False
+    try:
+        content = "ab" * 20000
+        lines = [f"write {block} 1001 {content}" for block in range(1, 21)]
+        replies, status = played(volume, lines)
+        want("the replies of a file system that fills", sorted(set(replies)), ["failed", "ok"])
+        want("the status of a file system that fills", (len(replies), status), (20, 0))
+        reads = [f"read {block}" for block in range(1, 21)]
+        found, status = played(volume, reads)
+        want("the status of a full file system", status, 0)
+        for block, (reply, read) in enumerate(zip(replies, found), 1):
+            wanted = [f"data 1001 {content}"] if reply == "ok" else ["none", "waiting"]
+            want(f"block {block}, answered {reply}", read in wanted, True)
+        deletes = [f"delete {block}" for block in range(1, 21)]
+        want("deletes of a full file system", set(played(volume, deletes)[0]) <= {"ok", "none"}, True)
+        want("a write after them", played(volume, [lines[0], reads[0]]), (["ok", found[0]], 0))
+    finally:
+        subprocess.run(["umount", str(volume)], check=True)
+    mounted = subprocess.run(["mount", "-t", "tmpfs", "-o", "nr_inodes=3", "tmpfs", str(volume)], check=True)
+    try:
+        want("a file system without room for directories", played(volume, ["read 5"]), REFUSED)
+    finally:
+        subprocess.run(["umount", str(volume)], check=True)
+    return True
+
+
+# What is no file of the program's at the names of its files
+
+
+class Outside:
+    """What links lead to: a copy of what stood at the name, outside of the volume."""
+
+    def __init__(self, directory, original):
+        self.directory = directory
+        directory.mkdir()
+        self.file, self.folder = directory / "file", directory / "folder"
+        self.file.write_bytes(original.read_bytes() if original.is_file() else b"outside")
+        if original.is_dir():
+            shutil.copytree(original, self.folder)
+        else:
+            self.folder.mkdir()
+        self.before = tree(directory)
+
+    def compare(self, what):
+        want(f"{what}: what stands outside", tree(self.directory), self.before)
+
+
+def make_device(path, outside):
+    try:
+        os.mknod(path, stat.S_IFCHR | 0o666, os.makedev(1, 5))
+    except PermissionError:
+        return False
+    return True
+
+
+def make_socket(path, outside):
+    with socket.socket(socket.AF_UNIX) as it:
+        number = os.open(path.parent, os.O_RDONLY)
+        it.bind(f"/proc/self/fd/{number}/{path.name}")
+        os.close(number)
+    return True
+
+
+# Each makes a thing at a free name, and answers whether it could.
+KINDS = {
+    "link to a file": lambda path, outside: path.symlink_to(outside.file) is None,
+    "link to a directory": lambda path, outside: path.symlink_to(outside.folder) is None,
+    "dangling link": lambda path, outside: path.symlink_to(outside.directory / "absent") is None,
+    "FIFO": lambda path, outside: os.mkfifo(path) is None,
+    "socket": make_socket,
+    "device": make_device,
+    "directory": lambda path, outside: path.mkdir() is None,
+    "hard link": lambda path, outside: os.link(outside.file, path) is None,
+}
+
+SWAPPED = [kind for kind in KINDS if kind not in ("directory", "hard link")]
+
+# By the name at which the thing stands when the program is started: the lines, and their replies for the things that
+# aren't followed, for a directory, and for a file with a further name.
+BLOCK, META = f"{PLACE}/blk_5", f"{PLACE}/blk_5_1001.meta"
+AT_START = {
+    # the meta file is removed, as one without a block file is
+    BLOCK: (["read 5", WRITE, "read 5", "delete 5"], ["none", "ok", DATA, "ok"], ["none", "failed", "unsure", "failed"], [DATA, "exists", DATA, "ok"]),
+    # the block file waits to be deleted, as one without a meta file does
+    META: (["read 5", "delete 5", WRITE, "read 5"], ["waiting", "ok", "ok", DATA], ["waiting", "ok", "failed", "unsure"], [DATA, "ok", "ok", DATA]),
+    "current/rbw/blk_7": (["write 7 1001 61", "read 7", "delete 7"], ["ok", "data 1001 61", "ok"], ["failed", "waiting", "failed"], ["waiting", "waiting", "ok"]),
+    "current/rbw/blk_7_1001.meta": (["write 7 1001 61", "read 7", "delete 7"], ["ok", "data 1001 61", "ok"], ["failed", "waiting", "failed"], ["ok", "data 1001 61", "ok"]),
+    "tmp/blk_9": (["read 5", "read 9"], [DATA, "none"], [DATA, "none"], [DATA, "none"]),
+}
+
+# By the name at which the thing is put between two lines of one run.
+AT_ONCE = {
+    BLOCK: (["read 5", "delete 5", WRITE, "read 5"], ["failed", "ok", "ok", DATA], ["failed", "failed", "unsure", "unsure"], [DATA, "ok", "ok", DATA]),
+    META: (["read 5", "delete 5", WRITE, "read 5"], ["failed", "ok", "ok", DATA], ["failed", "failed", "unsure", "unsure"], [DATA, "ok", "ok", DATA]),
+    "current/rbw/blk_7": (["write 7 1001 61", "read 7"], ["ok", "data 1001 61"], ["failed", "waiting"], ["ok", "data 1001 61"]),
+    "current/rbw/blk_7_1001.meta": (["write 7 1001 61", "read 7"], ["ok", "data 1001 61"], ["failed", "waiting"], ["ok", "data 1001 61"]),
+}
+
+LAYOUT = ["current", "current/rbw", "current/finalized", "current/finalized/subdir0", PLACE, "tmp"]
+
+
+def replies_of(case, kind):
+    lines, others, directory, hard_link = case
+    return lines, {"directory": directory, "hard link": hard_link}.get(kind, others)
+
+
+def take_away(path):
+    if path.is_dir():
+        shutil.rmtree(path)
+    else:
+        path.unlink(missing_ok=True)
+
+
+def check_names(room):
+    """Each thing at each name of a file, when the program is started and while it runs."""
+    count = 0
+    for when, table in [("at the start", AT_START), ("while it runs", AT_ONCE)]:
+        for (name, case), (kind, make) in itertools.product(table.items(), KINDS.items()):
+            what = f"a {kind} at {name} {when}"
+            volume = stored(room / f"{count} v")
+            path = volume / "current" / "bp1" / name
+            outside = Outside(room / f"{count} outside", path)
+            count += 1
+            lines, wanted = replies_of(case, kind)
+            path.parent.mkdir(parents=True, exist_ok=True)
+            run = None
+            if when == "while it runs":
+                run = Run([volume])
+                want(what, run.reply("read 5"), DATA)
+            take_away(path)
+            if make(path, outside):
+                want(what, (run or Run([volume])).end(lines), (wanted, 0))
+                outside.compare(what)
+            elif run:
+                run.end()
+    return count
+
+
+def check_layout(room):
+    """Each thing in place of each directory, when the program is started and while it runs."""
+    count = 0
+    below = [f"current/bp1/{name}" for name in LAYOUT]
+    # the first two are looked at when the disks are made, and no line writes or reads below the last
+    cases = [(name, False) for name in ["current", "current/bp1", *below]] + [(name, True) for name in below[:-1]]
+    for (name, runs), (kind, make) in itertools.product(cases, KINDS.items()):
+        if kind == "directory":
+            continue
+        what = f"a {kind} in place of {name}" + " while it runs" * runs
+        volume = stored(room / f"{count} v")
+        path = volume / name
+        path.mkdir(parents=True, exist_ok=True)
+        outside = Outside(room / f"{count} outside", path)
+        count += 1
+        run = Run([volume]) if runs else None
+        if run:
+            want(what, run.reply("read 5"), DATA)
+        take_away(path)
+        if not make(path, outside):
+            if run:
+                run.end()
+            continue
+        before = tree(volume)
+        if run:
+            lines, wanted = ["write 7 1001 61", "read 7"], [["failed", "waiting"], ["failed", "unsure"]]
+            replies, status = run.end(["read 5", *lines] if name != "current/bp1/current/rbw" else lines)
+            want(what, (replies[-2:] in wanted, set(replies[:-2]) <= {"failed"}, status), (True, True, 0))
+        else:
+            want(what, played(volume, ["read 5"]), REFUSED)
+            want(f"{what}: the volume", tree(volume), before)
+        outside.compare(what)
+    return count
+
+
+def main():
+    counts = []
+    with tempfile.TemporaryDirectory(prefix="real-volumes-") as top:
+        top = pathlib.Path(top)
+        top.chmod(0o711)
+        global PROGRAM
+        PROGRAM = pathlib.Path(shutil.copy(PROGRAM, top / "dnplay"))
+        PROGRAM.chmod(0o755)
+        for check in [check_locks, check_two_runs, check_directories, check_full, check_names, check_layout]:
+            room = top / check.__name__
+            room.mkdir()
+            counts.append(check(room))
+    full = "a full file system" if counts[3] else "no full file system (mount isn't allowed here)"
+    print(f"locks, two runs, directories and streams, {full}, {counts[4]} things at names and {counts[5]} in place of directories: all as wanted")
+
+
+if __name__ == "__main__":
+    main()
