@@ -5,7 +5,8 @@ use Rattle.disk_model.specs.Worlds.{World}
 use Rattle.volume_layout.specs.Paths.{IsBlockId}
 use Rattle.map_model.specs.Sound.{MatchesIf}
 use Rattle.map_model.specs.Cells.{Cell, Cells, absent}
-use Rattle.map_model.specs.Slots.{File, View, is_standing, view_of}
+use Rattle.volume_layout.specs.declared.block_file.BlockFile.{BlockFile}
+use Rattle.map_model.specs.Slots.{View, is_standing, view_of}
 use Rattle.map_model.specs.Stands.{Agrees, Leftover, Each, BlockStands}
 use Rattle.map_model.specs.Tenures.{books_of}
 use Rattle.pool_state.specs.declared.entry.Entry.{Entry}
@@ -16,7 +17,7 @@ use Rattle.pool_state.specs.Stands.{with_cell, IsVolume, IsNotWaiting, PoolStand
 use Rattle.pool_state.specs.Reaching.{Reaches, ComesFrom}
 
 -- a view in which nothing stands
-bare_stands : (M : List ℕ → List ℕ → Type 0) (view : View) → ((vol : ℕ) (file : File) → IsFalse (is_standing (view vol file))) → BlockStands M view (books_of None [] None) absent
+bare_stands : (M : List ℕ → List ℕ → Type 0) (view : View) → ((vol : ℕ) (file : BlockFile) → IsFalse (is_standing (view vol file))) → BlockStands M view (books_of None [] None) absent
 bare_stands M view bare = record {
   agrees = tt;
   content = tt;
