@@ -1,7 +1,7 @@
 #!/usr/bin/env python3
 """Runs `dnplay` over directories in which other things stand than it makes, and beside other processes.
 
-    python3 checks/real_volumes.py [PROGRAM]
+    python3 trials/real_volumes.py [PROGRAM]
 
 It wants the program that `rt run` in `crates/dnplay` builds. A volume that another process has locked, or whose lock can't
 be taken, is left as it is, file by file. Links, FIFOs, sockets, devices, directories and files with further names, at each

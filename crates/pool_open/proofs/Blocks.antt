@@ -9,7 +9,9 @@ use Rattle.map_model.specs.Cells.{Replica, Cell, absent, final, waiting}
 use Rattle.map_model.specs.Copies.{Spot, BlockFiles, IsCopy, IsAlone, ReadsAs}
 use Rattle.map_model.specs.Sound.{HasSoundCopies}
 use Rattle.map_model.specs.Openings.{LeavesBlockFile, MakesCell}
-use Rattle.map_model.specs.Slots.{File, block, meta, writing_block, writing_meta, temporary_block, temporary_meta, Slot, empty, holds, drafted, is_standing, bytes_in, View, files_in}
+use Rattle.volume_layout.specs.declared.block_file.BlockFile.{BlockFile}
+use Rattle.volume_layout.specs.declared.block_file.BlockFile.TheVariants.{Block, Meta, WritingBlock, WritingMeta, TemporaryBlock, TemporaryMeta}
+use Rattle.map_model.specs.Slots.{Slot, empty, holds, drafted, is_standing, bytes_in, View, files_in}
 use Rattle.map_model.specs.Stands.{Leftover, IsListed, HasNoPair, IsFinalised, is_final, StateNames, BlockStands}
 use Rattle.map_model.proofs.SlotLemmas.{bytes-standing}
 use Rattle.map_model.proofs.OneReading.{ReadsAs-unique}
@@ -64,26 +66,26 @@ outcome_cases files = by_block files files.block refl
 
 -- The files of a block as they were found and as they are while they are cleared: the block file stays, and the metas beside one.
 pub record Partly (found : Option FoundFiles) (was now : View) : Type 0 where
-  pub alike : (vol : ℕ) (file : File) → (now vol file ≡ was vol file) ⊎ (now vol file ≡ empty)
-  pub block_kept : now 1 block ≡ was 1 block
-  pub meta_kept : has_block found ≡ true → (stamp : ℕ) → now 1 (meta stamp) ≡ was 1 (meta stamp)
-  pub on_one : (vol : ℕ) (file : File) → IsTrue (is_standing (was vol file)) → vol ≡ 1
-  pub settled : (vol : ℕ) (file : File) (number : ℕ) → IsFinalised file → was vol file ≡ drafted number → ⊥
-  pub block_is : has_block found ≡ is_standing (was 1 block)
-  pub writing_is : has_writing found ≡ is_standing (was 1 writing_block)
-  pub metas_are : (stamp : ℕ) → Contains (metas_of found) stamp ↔ IsTrue (is_standing (was 1 (meta stamp)))
+  pub alike : (vol : ℕ) (file : BlockFile) → (now vol file ≡ was vol file) ⊎ (now vol file ≡ empty)
+  pub block_kept : now 1 Block ≡ was 1 Block
+  pub meta_kept : has_block found ≡ true → (stamp : ℕ) → now 1 (Meta stamp) ≡ was 1 (Meta stamp)
+  pub on_one : (vol : ℕ) (file : BlockFile) → IsTrue (is_standing (was vol file)) → vol ≡ 1
+  pub settled : (vol : ℕ) (file : BlockFile) (number : ℕ) → IsFinalised file → was vol file ≡ drafted number → ⊥
+  pub block_is : has_block found ≡ is_standing (was 1 Block)
+  pub writing_is : has_writing found ≡ is_standing (was 1 WritingBlock)
+  pub metas_are : (stamp : ℕ) → Contains (metas_of found) stamp ↔ IsTrue (is_standing (was 1 (Meta stamp)))
   pub few : length (metas_of found) ≤ 1
 
 -- what may stand when all was cleared
-abbrev pub Left : FoundFiles → File → Type 0
-Left files block = files.block ≡ true
-Left files (meta stamp) = (files.block ≡ true) × Contains files.metas.items stamp
-Left files writing_block = ((other : ℕ) → outcome_of files ≡ Final other → ⊥) × (files.writing ≡ true)
-Left files (writing_meta stamp) = ((other : ℕ) → outcome_of files ≡ Final other → ⊥) × (files.writing ≡ true) × Contains files.writing_metas.items stamp
-Left files temporary_block = ⊥
-Left files (temporary_meta stamp) = ⊥
+abbrev pub Left : FoundFiles → BlockFile → Type 0
+Left files Block = files.block ≡ true
+Left files (Meta stamp) = (files.block ≡ true) × Contains files.metas.items stamp
+Left files WritingBlock = ((other : ℕ) → outcome_of files ≡ Final other → ⊥) × (files.writing ≡ true)
+Left files (WritingMeta stamp) = ((other : ℕ) → outcome_of files ≡ Final other → ⊥) × (files.writing ≡ true) × Contains files.writing_metas.items stamp
+Left files TemporaryBlock = ⊥
+Left files (TemporaryMeta stamp) = ⊥
 
-abbrev pub LeftOf : Option FoundFiles → File → Type 0
+abbrev pub LeftOf : Option FoundFiles → BlockFile → Type 0
 LeftOf None file = ⊥
 LeftOf (Some files) file = Left files file
 
@@ -107,27 +109,27 @@ only_stamp metas stamp (next ∷ more) other are few has =
     absurd (omega (arith, few, long))
 
 module _ (found : Option FoundFiles) (was now : View) (partly : Partly found was now) where
-  pub was_standing : (vol : ℕ) (file : File) → IsTrue (is_standing (now vol file)) → IsTrue (is_standing (was vol file))
+  pub was_standing : (vol : ℕ) (file : BlockFile) → IsTrue (is_standing (now vol file)) → IsTrue (is_standing (was vol file))
   was_standing vol file there = elim (partly.alike vol file) [
     | inl same ↦ sym (ap is_standing same) ∙ there
     | inr gone ↦ absurd (false≢true (sym (ap is_standing gone) ∙ there))
   ]
 
-  pub now_settled : (vol : ℕ) (file : File) (number : ℕ) → IsFinalised file → now vol file ≡ drafted number → ⊥
+  pub now_settled : (vol : ℕ) (file : BlockFile) (number : ℕ) → IsFinalised file → now vol file ≡ drafted number → ⊥
   now_settled vol file number is drafts = elim (partly.alike vol file) [
     | inl same ↦ partly.settled vol file number is (sym same ∙ drafts)
     | inr gone ↦ false≢true (sym (ap is_standing gone) ∙ ap is_standing drafts)
   ]
 
-  block_found : (vol : ℕ) → IsTrue (is_standing (now vol block)) → has_block found ≡ true
+  block_found : (vol : ℕ) → IsTrue (is_standing (now vol Block)) → has_block found ≡ true
   block_found vol there =
-      let was_there = was_standing vol block there in
-      partly.block_is ∙ subst (λ v. is_standing (was v block) ≡ true) (partly.on_one vol block was_there) was_there
+      let was_there = was_standing vol Block there in
+      partly.block_is ∙ subst (λ v. is_standing (was v Block) ≡ true) (partly.on_one vol Block was_there) was_there
 
-  meta_found : (vol stamp : ℕ) → IsTrue (is_standing (now vol (meta stamp))) → Contains (metas_of found) stamp
+  meta_found : (vol stamp : ℕ) → IsTrue (is_standing (now vol (Meta stamp))) → Contains (metas_of found) stamp
   meta_found vol stamp there =
-      let was_there = was_standing vol (meta stamp) there in
-      (partly.metas_are stamp).1 (subst (λ v. is_standing (was v (meta stamp)) ≡ true) (partly.on_one vol (meta stamp) was_there) was_there)
+      let was_there = was_standing vol (Meta stamp) there in
+      (partly.metas_are stamp).1 (subst (λ v. is_standing (was v (Meta stamp)) ≡ true) (partly.on_one vol (Meta stamp) was_there) was_there)
 
   -- no pair
   pub lone_no_pair : (has_block found ≡ true → metas_of found ≡ []) → HasNoPair now
@@ -136,15 +138,15 @@ module _ (found : Option FoundFiles) (was now : View) (partly : Partly found was
 
   -- a pair
   pub final_one_pair : (stamp : ℕ) (more : List ℕ) → has_block found ≡ true → metas_of found ≡ stamp ∷ more →
-      OnePair now stamp (slot_bytes (was 1 block)) (slot_bytes (was 1 (meta stamp)))
+      OnePair now stamp (slot_bytes (was 1 Block)) (slot_bytes (was 1 (Meta stamp)))
   final_one_pair stamp more there are = record {
-    block_file = partly.block_kept ∙ held_slot (was 1 block) (sym partly.block_is ∙ there) (λ number. partly.settled 1 block number tt);
-    meta_file = partly.meta_kept there stamp ∙ held_slot (was 1 (meta stamp))
+    block_file = partly.block_kept ∙ held_slot (was 1 Block) (sym partly.block_is ∙ there) (λ number. partly.settled 1 Block number tt);
+    meta_file = partly.meta_kept there stamp ∙ held_slot (was 1 (Meta stamp))
         ((partly.metas_are stamp).0 (subst (λ (ms : List ℕ). Contains ms stamp) (sym are) (0, omega arith, refl)))
-        (λ number. partly.settled 1 (meta stamp) number tt);
-    only_block = λ vol standing. partly.on_one vol block (was_standing vol block standing);
+        (λ number. partly.settled 1 (Meta stamp) number tt);
+    only_block = λ vol standing. partly.on_one vol Block (was_standing vol Block standing);
     only_meta = λ vol other standing. (
-      partly.on_one vol (meta other) (was_standing vol (meta other) standing),
+      partly.on_one vol (Meta other) (was_standing vol (Meta other) standing),
       only_stamp (metas_of found) stamp more other are partly.few (meta_found vol other standing),
     );
   }
@@ -161,12 +163,12 @@ abbrev pub read_of : Option FoundFiles → List ℕ → Option Replica
 read_of None bytes = None
 read_of (Some files) bytes = read_by (outcome_of files) bytes
 
-pub reads_partly : (found : Option FoundFiles) (was now : View) → Partly found was now → ReadsAs (files_in now) (read_of found (slot_bytes (was 1 block)))
+pub reads_partly : (found : Option FoundFiles) (was now : View) → Partly found was now → ReadsAs (files_in now) (read_of found (slot_bytes (was 1 Block)))
 reads_partly None was now partly = no_pair_reads now (lone_no_pair None was now partly (λ there. refl))
 reads_partly (Some files) was now partly =
-    let P : Outcome → Type 0 = λ o. ReadsAs (files_in now) (read_by o (slot_bytes (was 1 block))) in
+    let P : Outcome → Type 0 = λ o. ReadsAs (files_in now) (read_by o (slot_bytes (was 1 Block))) in
     elim (outcome_cases files) [
-      | inl made ↦ subst P (sym made.is) (pair_reads now made.stamp (slot_bytes (was 1 block)) (slot_bytes (was 1 (meta made.stamp)))
+      | inl made ↦ subst P (sym made.is) (pair_reads now made.stamp (slot_bytes (was 1 Block)) (slot_bytes (was 1 (Meta made.stamp)))
           (final_one_pair (Some files) was now partly made.stamp made.more made.block_there made.metas_are))
       | inr (inl made) ↦ subst P (sym made.is) (no_pair_reads now (lone_no_pair (Some files) was now partly made.lone))
       | inr (inr made) ↦ subst P (sym made.is) (no_pair_reads now (lone_no_pair (Some files) was now partly (λ there. absurd (false≢true (sym made.no_block ∙ there)))))
@@ -177,7 +179,7 @@ pub alone_partly : (found : Option FoundFiles) (was now : View) → Partly found
 alone_partly None was now partly = no_pair_alone now (lone_no_pair None was now partly (λ there. refl))
 alone_partly (Some files) was now partly =
     elim (outcome_cases files) [
-      | inl made ↦ pair_alone now made.stamp (slot_bytes (was 1 block)) (slot_bytes (was 1 (meta made.stamp)))
+      | inl made ↦ pair_alone now made.stamp (slot_bytes (was 1 Block)) (slot_bytes (was 1 (Meta made.stamp)))
           (final_one_pair (Some files) was now partly made.stamp made.more made.block_there made.metas_are)
       | inr (inl made) ↦ no_pair_alone now (lone_no_pair (Some files) was now partly made.lone)
       | inr (inr made) ↦ no_pair_alone now (lone_no_pair (Some files) was now partly (λ there. absurd (false≢true (sym made.no_block ∙ there))))
@@ -187,19 +189,19 @@ alone_partly (Some files) was now partly =
 pub sound_partly : (M : List ℕ → Replica → Type 0) (found : Option FoundFiles) (was now : View) → Partly found was was → Partly found was now →
     HasSoundCopies M (files_in was) → HasSoundCopies M (files_in now)
 sound_partly M found was now own partly sound spot replica greatest =
-    let bytes = slot_bytes (was 1 block) in
+    let bytes = slot_bytes (was 1 Block) in
     let same : read_of found bytes ≡ Some replica = ReadsAs-unique (files_in now) (read_of found bytes) (Some replica) (reads_partly found was now partly) (spot, greatest) in
     let before : ReadsAs (files_in was) (Some replica) = subst (λ (r : Option Replica). ReadsAs (files_in was) r) same (reads_partly found was was own) in
-    let standing = bytes-standing (now spot.vol block) (ap is_some greatest.copy.block) in
-    let here : spot.vol ≡ 1 = partly.on_one spot.vol block (was_standing found was now partly spot.vol block standing) in
-    let there : before.0.vol ≡ 1 = own.on_one before.0.vol block (bytes-standing (was before.0.vol block) (ap is_some before.1.copy.block)) in
-    let kept : now 1 (meta replica.stamp) ≡ was 1 (meta replica.stamp) = partly.meta_kept (block_found found was now partly spot.vol standing) replica.stamp in
-    let matched : IsSomeAnd (bytes_in (was before.0.vol (meta replica.stamp))) (λ content. M content replica) = sound before.0 replica before.1 in
-    let on_one : IsSomeAnd (bytes_in (was 1 (meta replica.stamp))) (λ content. M content replica) =
-    subst (λ v. IsSomeAnd (bytes_in (was v (meta replica.stamp))) (λ content. M content replica)) there matched in
-    let still : IsSomeAnd (bytes_in (now 1 (meta replica.stamp))) (λ content. M content replica) =
+    let standing = bytes-standing (now spot.vol Block) (ap is_some greatest.copy.block) in
+    let here : spot.vol ≡ 1 = partly.on_one spot.vol Block (was_standing found was now partly spot.vol Block standing) in
+    let there : before.0.vol ≡ 1 = own.on_one before.0.vol Block (bytes-standing (was before.0.vol Block) (ap is_some before.1.copy.block)) in
+    let kept : now 1 (Meta replica.stamp) ≡ was 1 (Meta replica.stamp) = partly.meta_kept (block_found found was now partly spot.vol standing) replica.stamp in
+    let matched : IsSomeAnd (bytes_in (was before.0.vol (Meta replica.stamp))) (λ content. M content replica) = sound before.0 replica before.1 in
+    let on_one : IsSomeAnd (bytes_in (was 1 (Meta replica.stamp))) (λ content. M content replica) =
+    subst (λ v. IsSomeAnd (bytes_in (was v (Meta replica.stamp))) (λ content. M content replica)) there matched in
+    let still : IsSomeAnd (bytes_in (now 1 (Meta replica.stamp))) (λ content. M content replica) =
     subst (λ (slot : Slot). IsSomeAnd (bytes_in slot) (λ content. M content replica)) (sym kept) on_one in
-    subst (λ v. IsSomeAnd (bytes_in (now v (meta replica.stamp))) (λ content. M content replica)) (sym here) still
+    subst (λ v. IsSomeAnd (bytes_in (now v (Meta replica.stamp))) (λ content. M content replica)) (sym here) still
 
 -- ---- the cell
 
@@ -239,28 +241,28 @@ module _ (told : Option (List World)) (id : ℕ) (entry : Option Entry) (left : 
     -- nothing was found of a block file
     none_left : (found : Option FoundFiles) → Partly found was was → has_block found ≡ false → has_writing found ≡ false → LeavesBlockFile (files_in was) → ⊥
     none_left found partly no_block no_writing there = elim there.1 [
-      | inl writing ↦ false≢true (sym no_writing ∙ partly.writing_is ∙ subst (λ v. is_standing (was v writing_block) ≡ true) (partly.on_one there.0 writing_block writing) writing)
+      | inl writing ↦ false≢true (sym no_writing ∙ partly.writing_is ∙ subst (λ v. is_standing (was v WritingBlock) ≡ true) (partly.on_one there.0 WritingBlock writing) writing)
       | inr settled ↦
-          let standing = bytes-standing (was there.0 block) settled in
-          false≢true (sym no_block ∙ partly.block_is ∙ subst (λ v. is_standing (was v block) ≡ true) (partly.on_one there.0 block standing) standing)
+          let standing = bytes-standing (was there.0 Block) settled in
+          false≢true (sym no_block ∙ partly.block_is ∙ subst (λ v. is_standing (was v Block) ≡ true) (partly.on_one there.0 Block standing) standing)
     ]
 
     some_left : (files : FoundFiles) → Partly (Some files) was was → (files.block ≡ true) ⊎ (files.writing ≡ true) → LeavesBlockFile (files_in was)
     some_left files partly (inl there) =
-        (1, inr (ap (λ s. is_some (bytes_in s)) (held_slot (was 1 block) (sym partly.block_is ∙ there) (λ number. partly.settled 1 block number tt))))
+        (1, inr (ap (λ s. is_some (bytes_in s)) (held_slot (was 1 Block) (sym partly.block_is ∙ there) (λ number. partly.settled 1 Block number tt))))
     some_left files partly (inr there) = (1, inl (sym partly.writing_is ∙ there))
 
-    pub made_cell : (found : Option FoundFiles) → Partly found was was → bytes ≡ slot_bytes (was 1 block) → SaysFound told id found entry left →
+    pub made_cell : (found : Option FoundFiles) → Partly found was was → bytes ≡ slot_bytes (was 1 Block) → SaysFound told id found entry left →
         MakesCell (files_in was) (cell_of bytes entry)
     made_cell None partly bytes_are says = made_none (files_in was) (reads_partly None was was partly) (none_left None partly refl refl) says.0
     made_cell (Some files) partly bytes_are says =
         let Q : Outcome → Type 0 = λ o. SaysOutcome o told id files entry left in
-        let R : Outcome → Type 0 = λ o. ReadsAs (files_in was) (read_by o (slot_bytes (was 1 block))) in
+        let R : Outcome → Type 0 = λ o. ReadsAs (files_in was) (read_by o (slot_bytes (was 1 Block))) in
         let reads = reads_partly (Some files) was was partly in
         elim (outcome_cases files) [
           | inl made ↦
               let said : IsFinalEntry told id made.stamp entry left = subst Q made.is says in
-              let read : ReadsAs (files_in was) (Some (replica_of made.stamp (slot_bytes (was 1 block)))) = subst R made.is reads in
+              let read : ReadsAs (files_in was) (Some (replica_of made.stamp (slot_bytes (was 1 Block)))) = subst R made.is reads in
               made_final (files_in was) made.stamp said.len
               (subst (λ (b : List ℕ). ReadsAs (files_in was) (Some (replica_of made.stamp b))) (sym bytes_are) read) said.is
           | inr (inl made) ↦
@@ -282,43 +284,43 @@ module _ (M : List ℕ → Replica → Type 0) (told : Option (List World)) (id 
   here : (e : Option Entry) (l : List Leftover) → entry ≡ e → left ≡ l → StandsHere e l → StandsHere entry left
   here e l entry_is left_is stands = subst (λ (x : Option Entry). StandsHere x left) (sym entry_is) (subst (λ (x : List Leftover). StandsHere e x) (sym left_is) stands)
 
-  module _ (files : FoundFiles) (partly : Partly (Some files) was now) (leaves : (file : File) → IsTrue (is_standing (now 1 file)) → Left files file)
+  module _ (files : FoundFiles) (partly : Partly (Some files) was now) (leaves : (file : BlockFile) → IsTrue (is_standing (now 1 file)) → Left files file)
       (stamps : (stamp : ℕ) → Contains files.metas.items stamp → IsStamp stamp) (writing_stamps : (stamp : ℕ) → Contains files.writing_metas.items stamp → IsStamp stamp)
-      (bytes_are : bytes ≡ slot_bytes (was 1 block)) (len_is : (len : ℕ) → files.block ≡ true → IsSizeOf told (block_path id) len → len ≡ length bytes)
-      (matches : (made : MakesFinal files) → M (slot_bytes (was 1 (meta made.stamp))) (replica_of made.stamp bytes)) where
-    at_one : (vol : ℕ) (file : File) → IsTrue (is_standing (now vol file)) → (vol ≡ 1) × Left files file
+      (bytes_are : bytes ≡ slot_bytes (was 1 Block)) (len_is : (len : ℕ) → files.block ≡ true → IsSizeOf told (block_path id) len → len ≡ length bytes)
+      (matches : (made : MakesFinal files) → M (slot_bytes (was 1 (Meta made.stamp))) (replica_of made.stamp bytes)) where
+    at_one : (vol : ℕ) (file : BlockFile) → IsTrue (is_standing (now vol file)) → (vol ≡ 1) × Left files file
     at_one vol file there =
         let vol_is = partly.on_one vol file (was_standing (Some files) was now partly vol file there) in
         (vol_is, leaves file (subst (λ v. is_standing (now v file) ≡ true) vol_is there))
 
-    named : (made : MakesFinal files) (file : File) → Left files file → StateNames is_final made.stamp file
-    named made block is = tt
-    named made (meta stamp) is = only_stamp files.metas.items made.stamp made.more stamp made.metas_are partly.few is.1
-    named made writing_block is = is.0 made.stamp made.is
-    named made (writing_meta stamp) is = is.0 made.stamp made.is
-    named made temporary_block is = is
-    named made (temporary_meta stamp) is = is
+    named : (made : MakesFinal files) (file : BlockFile) → Left files file → StateNames is_final made.stamp file
+    named made Block is = tt
+    named made (Meta stamp) is = only_stamp files.metas.items made.stamp made.more stamp made.metas_are partly.few is.1
+    named made WritingBlock is = is.0 made.stamp made.is
+    named made (WritingMeta stamp) is = is.0 made.stamp made.is
+    named made TemporaryBlock is = is
+    named made (TemporaryMeta stamp) is = is
 
     final_here : (made : MakesFinal files) → IsFinalEntry told id made.stamp entry left → StandsHere entry left
     final_here made says =
         let pair = final_one_pair (Some files) was now partly made.stamp made.more made.block_there made.metas_are in
-        let with_bytes : OnePair now made.stamp bytes (slot_bytes (was 1 (meta made.stamp))) =
-        subst (λ (b : List ℕ). OnePair now made.stamp b (slot_bytes (was 1 (meta made.stamp)))) (sym bytes_are) pair in
+        let with_bytes : OnePair now made.stamp bytes (slot_bytes (was 1 (Meta made.stamp))) =
+        subst (λ (b : List ℕ). OnePair now made.stamp b (slot_bytes (was 1 (Meta made.stamp)))) (sym bytes_are) pair in
         here (Some (entry_of id made.stamp says.len Finalised)) [] says.is says.none_left
-        (final_stands M now id made.stamp says.len bytes (slot_bytes (was 1 (meta made.stamp))) with_bytes (matches made)
+        (final_stands M now id made.stamp says.len bytes (slot_bytes (was 1 (Meta made.stamp))) with_bytes (matches made)
         (stamps made.stamp (subst (λ (ms : List ℕ). Contains ms made.stamp) (sym made.metas_are) (0, omega arith, refl)))
         (len_is says.len made.block_there says.size)
         (λ vol file there. let at = at_one vol file there in (sym at.0, named made file at.1))
         (now_settled (Some files) was now partly))
 
-    held : (made : MakesWaiting files) (stamp block_len writing_len : ℕ) (file : File) → Left files file → IsListed (kept_files stamp block_len writing_len files) 1 file
-    held made stamp block_len writing_len block is = lists_block stamp block_len writing_len files is
-    held made stamp block_len writing_len (meta other) is =
+    held : (made : MakesWaiting files) (stamp block_len writing_len : ℕ) (file : BlockFile) → Left files file → IsListed (kept_files stamp block_len writing_len files) 1 file
+    held made stamp block_len writing_len Block is = lists_block stamp block_len writing_len files is
+    held made stamp block_len writing_len (Meta other) is =
         absurd (none_in other (subst (λ (ms : List ℕ). Contains ms other) (made.lone is.0) is.1))
-    held made stamp block_len writing_len writing_block is = lists_writing stamp block_len writing_len files is.1
-    held made stamp block_len writing_len (writing_meta other) is = lists_meta stamp block_len writing_len files is.1 other is.2
-    held made stamp block_len writing_len temporary_block is = absurd is
-    held made stamp block_len writing_len (temporary_meta other) is = absurd is
+    held made stamp block_len writing_len WritingBlock is = lists_writing stamp block_len writing_len files is.1
+    held made stamp block_len writing_len (WritingMeta other) is = lists_meta stamp block_len writing_len files is.1 other is.2
+    held made stamp block_len writing_len TemporaryBlock is = absurd is
+    held made stamp block_len writing_len (TemporaryMeta other) is = absurd is
 
     waiting_here : (made : MakesWaiting files) → IsWaitingEntry id files entry left → StandsHere entry left
     waiting_here made says =
@@ -331,13 +333,13 @@ module _ (M : List ℕ → Replica → Type 0) (told : Option (List World)) (id 
         (kept_fits says.stamp says.block_len says.writing_len files id says.len writing_stamps)
         (now_settled (Some files) was now partly))
 
-    nothing : (made : MakesAbsent files) (file : File) → Left files file → ⊥
-    nothing made block is = false≢true (sym made.no_block ∙ is)
-    nothing made (meta stamp) is = false≢true (sym made.no_block ∙ is.0)
-    nothing made writing_block is = false≢true (sym made.no_writing ∙ is.1)
-    nothing made (writing_meta stamp) is = false≢true (sym made.no_writing ∙ is.1)
-    nothing made temporary_block is = is
-    nothing made (temporary_meta stamp) is = is
+    nothing : (made : MakesAbsent files) (file : BlockFile) → Left files file → ⊥
+    nothing made Block is = false≢true (sym made.no_block ∙ is)
+    nothing made (Meta stamp) is = false≢true (sym made.no_block ∙ is.0)
+    nothing made WritingBlock is = false≢true (sym made.no_writing ∙ is.1)
+    nothing made (WritingMeta stamp) is = false≢true (sym made.no_writing ∙ is.1)
+    nothing made TemporaryBlock is = is
+    nothing made (TemporaryMeta stamp) is = is
 
     pub files_stand : SaysOutcome (outcome_of files) told id files entry left → StandsHere entry left
     files_stand says =
@@ -350,7 +352,7 @@ module _ (M : List ℕ → Replica → Type 0) (told : Option (List World)) (id 
               here None [] said.0 said.1 (absent_stands M now (λ vol file there. nothing made file (at_one vol file there).1))
         ]
 
-  pub none_stands : Partly None was now → ((file : File) → IsTrue (is_standing (now 1 file)) → ⊥) → (entry ≡ None) × (left ≡ []) → StandsHere entry left
+  pub none_stands : Partly None was now → ((file : BlockFile) → IsTrue (is_standing (now 1 file)) → ⊥) → (entry ≡ None) × (left ≡ []) → StandsHere entry left
   none_stands partly leaves says =
       here None [] says.0 says.1 (absent_stands M now (λ vol file there.
       let vol_is = partly.on_one vol file (was_standing None was now partly vol file there) in

@@ -11,7 +11,8 @@ use Rattle.disk_model.proofs.Laws.{only_one, from_done}
 use Rattle.volume_layout.specs.Paths.{IsBlockId, IsStamp, meta_path}
 use Rattle.volume_layout.proofs.Reading.{is_stamp-IsStamp}
 use Rattle.map_model.specs.World.{DraftsAside}
-use Rattle.map_model.specs.Slots.{meta, is_standing, slot_of, view_of}
+use Rattle.volume_layout.specs.declared.block_file.BlockFile.TheVariants.{Meta}
+use Rattle.map_model.specs.Slots.{is_standing, slot_of, view_of}
 use Rattle.map_model.specs.Stands.{Leftover}
 use Rattle.map_model.proofs.Aside.{aside_no_draft}
 use Rattle.map_model.proofs.Places.{no_number}
@@ -115,10 +116,10 @@ module _ (world : World) (image : Files) (survey : Survey) (surveyed : IsSurveyO
     (blocks : AreBlocks survey.blocks) where
   module _ (id : ℕ) (valid : IsBlockId id) where
     -- a finalised meta is settled
-    meta_slot : (stamp : ℕ) → IsStamp stamp → view_of world id 1 (meta stamp) ≡ slot_of None (image 1 (meta_path id stamp))
+    meta_slot : (stamp : ℕ) → IsStamp stamp → view_of world id 1 (Meta stamp) ≡ slot_of None (image 1 (meta_path id stamp))
     meta_slot stamp stamped =
-        let none = aside_no_draft id 1 (meta stamp) world refl aside in
-        view_slot world id 1 (meta stamp) (is_stamp-IsStamp stamp stamped)
+        let none = aside_no_draft id 1 (Meta stamp) world refl aside in
+        view_slot world id 1 (Meta stamp) (is_stamp-IsStamp stamp stamped)
         ∙ ap (λ d. slot_of d (world.settled 1 (meta_path id stamp))) (no_number world 1 (meta_path id stamp) none)
         ∙ ap (slot_of None) (sym (leaves.settled 1 (meta_path id stamp) none))
 

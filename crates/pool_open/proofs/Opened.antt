@@ -7,7 +7,10 @@ use Rattle.disk_model.specs.Files.{path_in}
 use Rattle.disk_model.specs.Worlds.{World, IsListing}
 use Rattle.volume_layout.specs.Paths.{IsBlockId, IsStamp, is_stamp, block_path, meta_path}
 use Rattle.map_model.specs.World.{DraftsAside}
-use Rattle.map_model.specs.Slots.{File, block, meta, writing_block, writing_meta, temporary_block, temporary_meta, path_of, dir_of, name_of, is_file, is_aside_file, Slot, empty, drafted, is_standing, slot_at, view_of}
+use Rattle.volume_layout.specs.declared.block_file.BlockFile.{BlockFile}
+use Rattle.volume_layout.specs.declared.block_file.BlockFile.TheVariants.{Block, Meta, WritingBlock, WritingMeta, TemporaryBlock, TemporaryMeta}
+use Rattle.volume_layout.specs.BlockFiles.{path_of, dir_of, name_of, is_file, is_aside_file}
+use Rattle.map_model.specs.Slots.{Slot, empty, drafted, is_standing, slot_at, view_of}
 use Rattle.map_model.specs.Stands.{Leftover, IsFinalised, BlockStands}
 use Rattle.map_model.proofs.Bridge.{view_slot}
 use Rattle.map_model.proofs.Aside.{aside_not_drafted}
@@ -27,20 +30,20 @@ use Rattle.pool_open.proofs.Planned.{Spares, spared, clears_temporary, clears_me
 use Rattle.pool_open.proofs.Blocks.{MakesFinal, Partly, Left, slot_bytes, cell_of, files_stand, none_stands, was_standing}
 
 -- what isn't a file doesn't stand
-pub no_file : (world : World) (id vol : ℕ) (f : File) → is_file f ≡ false → view_of world id vol f ≡ empty
+pub no_file : (world : World) (id vol : ℕ) (f : BlockFile) → is_file f ≡ false → view_of world id vol f ≡ empty
 unfolding view_of
 no_file world id vol f isnt = rw isnt refl
 
 not_standing : (slot : Slot) → slot ≡ empty → IsTrue (is_standing slot) → ⊥
 not_standing slot is there = false≢true (sym (ap is_standing is) ∙ there)
 
-finalised_apart : (f : File) → IsFinalised f → is_aside_file f ≡ false
-finalised_apart block is = refl
-finalised_apart (meta stamp) is = refl
-finalised_apart writing_block is = absurd is
-finalised_apart (writing_meta stamp) is = absurd is
-finalised_apart temporary_block is = absurd is
-finalised_apart (temporary_meta stamp) is = absurd is
+finalised_apart : (f : BlockFile) → IsFinalised f → is_aside_file f ≡ false
+finalised_apart Block is = refl
+finalised_apart (Meta stamp) is = refl
+finalised_apart WritingBlock is = absurd is
+finalised_apart (WritingMeta stamp) is = absurd is
+finalised_apart TemporaryBlock is = absurd is
+finalised_apart (TemporaryMeta stamp) is = absurd is
 
 -- the table of a survey with at most one meta a block
 pub record IsTable (survey : Survey) : Type 0 where
@@ -73,25 +76,25 @@ module _ (survey : Survey) (table : IsTable survey) where
       path has
 
   module _ (was now : World) (surveyed : IsSurveyed survey was) (clears : Clears (plan_of survey) was now) (id : ℕ) (valid : IsBlockId id) where
-    slots : (vol : ℕ) (f : File) (b : Bool) → is_file f ≡ b → (view_of now id vol f ≡ view_of was id vol f) ⊎ ((view_of now id vol f ≡ empty) × Contains (plan_of survey) (path_of id f))
+    slots : (vol : ℕ) (f : BlockFile) (b : Bool) → is_file f ≡ b → (view_of now id vol f ≡ view_of was id vol f) ⊎ ((view_of now id vol f ≡ empty) × Contains (plan_of survey) (path_of id f))
     slots vol f true is = elim (clears.each vol (path_of id f)) [
       | inl same ↦ inl (view_slot now id vol f is ∙ same ∙ sym (view_slot was id vol f is))
       | inr gone ↦ inr (view_slot now id vol f is ∙ gone.0, gone.1)
     ]
     slots vol f false isnt = inl (no_file now id vol f isnt ∙ sym (no_file was id vol f isnt))
 
-    kept_meta : (stamp : ℕ) (b : Bool) → is_stamp stamp ≡ b → has_block (found_of survey.blocks id) ≡ true → view_of now id 1 (meta stamp) ≡ view_of was id 1 (meta stamp)
-    kept_meta stamp true is there = elim (slots 1 (meta stamp) true is) [
+    kept_meta : (stamp : ℕ) (b : Bool) → is_stamp stamp ≡ b → has_block (found_of survey.blocks id) ≡ true → view_of now id 1 (Meta stamp) ≡ view_of was id 1 (Meta stamp)
+    kept_meta stamp true is there = elim (slots 1 (Meta stamp) true is) [
       | inl same ↦ same
       | inr gone ↦ absurd (false≢true (sym ((spares_path (meta_path id stamp) gone.1).meta_file id stamp valid is refl) ∙ there))
     ]
-    kept_meta stamp false isnt there = no_file now id 1 (meta stamp) isnt ∙ sym (no_file was id 1 (meta stamp) isnt)
+    kept_meta stamp false isnt there = no_file now id 1 (Meta stamp) isnt ∙ sym (no_file was id 1 (Meta stamp) isnt)
 
-    was_on_one : (vol : ℕ) (f : File) (b : Bool) → is_file f ≡ b → IsTrue (is_standing (view_of was id vol f)) → vol ≡ 1
+    was_on_one : (vol : ℕ) (f : BlockFile) (b : Bool) → is_file f ≡ b → IsTrue (is_standing (view_of was id vol f)) → vol ≡ 1
     was_on_one vol f true is there = surveyed.on_one vol (path_of id f) (sym (ap is_standing (view_slot was id vol f is)) ∙ there)
     was_on_one vol f false isnt there = absurd (not_standing (view_of was id vol f) (no_file was id vol f isnt) there)
 
-    not_drafted : (vol : ℕ) (f : File) (number : ℕ) (b : Bool) → is_file f ≡ b → IsFinalised f → view_of was id vol f ≡ drafted number → ⊥
+    not_drafted : (vol : ℕ) (f : BlockFile) (number : ℕ) (b : Bool) → is_file f ≡ b → IsFinalised f → view_of was id vol f ≡ drafted number → ⊥
     not_drafted vol f number true is finalised drafts = aside_not_drafted id vol f was number is (finalised_apart f finalised) surveyed.aside drafts
     not_drafted vol f number false isnt finalised drafts = not_standing (view_of was id vol f) (no_file was id vol f isnt) (ap is_standing drafts)
 
@@ -101,7 +104,7 @@ module _ (survey : Survey) (table : IsTable survey) where
     pub partly : Partly (found_of survey.blocks id) (view_of was id) (view_of now id)
     partly = record {
       alike = λ vol f. elim (slots vol f (is_file f) refl) [ inl same ↦ inl same | inr gone ↦ inr gone.0 ];
-      block_kept = elim (slots 1 block true refl) [
+      block_kept = elim (slots 1 Block true refl) [
         | inl same ↦ same
         | inr gone ↦ absurd ((spares_path (block_path id) gone.1).block_file id valid refl)
       ];
@@ -115,86 +118,86 @@ module _ (survey : Survey) (table : IsTable survey) where
     }
 
     module _ (clear : AreClear (plan_of survey) now) where
-      standing_file : (f : File) → IsTrue (is_standing (view_of now id 1 f)) → IsTrue (is_file f)
+      standing_file : (f : BlockFile) → IsTrue (is_standing (view_of now id 1 f)) → IsTrue (is_file f)
       standing_file f there = elim (cases_Bool (is_file f)) [ inl is ↦ is | inr isnt ↦ absurd (not_standing (view_of now id 1 f) (no_file now id 1 f isnt) there) ]
 
       -- what stands isn't cleared
-      not_cleared : (f : File) → IsTrue (is_standing (view_of now id 1 f)) → Contains (plan_of survey) (path_of id f) → ⊥
+      not_cleared : (f : BlockFile) → IsTrue (is_standing (view_of now id 1 f)) → Contains (plan_of survey) (path_of id f) → ⊥
       not_cleared f there has =
           not_standing (view_of now id 1 f) (view_slot now id 1 f (standing_file f there) ∙ clear (path_of id f) has) there
 
-      stood : (f : File) → IsTrue (is_standing (view_of now id 1 f)) → IsTrue (is_standing (view_of was id 1 f))
+      stood : (f : BlockFile) → IsTrue (is_standing (view_of now id 1 f)) → IsTrue (is_standing (view_of was id 1 f))
       stood f there = was_standing (found_of survey.blocks id) (view_of was id) (view_of now id) partly 1 f there
 
       -- a file of a move
-      no_temporary : (f : File) → dir_of id f ≡ codes "tmp" → IsTrue (is_standing (view_of now id 1 f)) → ⊥
+      no_temporary : (f : BlockFile) → dir_of id f ≡ codes "tmp" → IsTrue (is_standing (view_of now id 1 f)) → ⊥
       no_temporary f dir there =
           let listing : IsListing was 1 (dir_of id f) survey.temporary = subst (λ (d : List ℕ). IsListing was 1 d survey.temporary) (sym dir) surveyed.exact.temporary in
           let named = file_listed was id 1 f survey.temporary valid (standing_file f there) listing (stood f there) in
           let path : path_in (codes "tmp") (name_of id f) ≡ path_of id f = ap (λ (d : List ℕ). path_in d (name_of id f)) (sym dir) ∙ path_in_own_dir id f in
           not_cleared f there (subst (λ (p : List ℕ). Contains (plan_of survey) p) path (clears_temporary survey.blocks.entries survey.temporary (name_of id f) named))
 
-      left_none : found_of survey.blocks id ≡ None → (f : File) → IsTrue (is_standing (view_of now id 1 f)) → ⊥
-      left_none is block there = false≢true (sym (ap has_block is) ∙ exact.block ∙ stood block there)
-      left_none is (meta stamp) there =
-          let has : Contains (metas_of None) stamp = subst (λ (f : Option FoundFiles). Contains (metas_of f) stamp) is ((exact.metas stamp).1 (stood (meta stamp) there)) in
+      left_none : found_of survey.blocks id ≡ None → (f : BlockFile) → IsTrue (is_standing (view_of now id 1 f)) → ⊥
+      left_none is Block there = false≢true (sym (ap has_block is) ∙ exact.block ∙ stood Block there)
+      left_none is (Meta stamp) there =
+          let has : Contains (metas_of None) stamp = subst (λ (f : Option FoundFiles). Contains (metas_of f) stamp) is ((exact.metas stamp).1 (stood (Meta stamp) there)) in
           absurd (omega (arith, has.1))
-      left_none is writing_block there = false≢true (sym (ap has_writing is) ∙ exact.writing ∙ stood writing_block there)
-      left_none is (writing_meta stamp) there =
-          let has : Contains (writing_metas_of None) stamp = subst (λ (f : Option FoundFiles). Contains (writing_metas_of f) stamp) is ((exact.writing_metas stamp).1 (stood (writing_meta stamp) there)) in
+      left_none is WritingBlock there = false≢true (sym (ap has_writing is) ∙ exact.writing ∙ stood WritingBlock there)
+      left_none is (WritingMeta stamp) there =
+          let has : Contains (writing_metas_of None) stamp = subst (λ (f : Option FoundFiles). Contains (writing_metas_of f) stamp) is ((exact.writing_metas stamp).1 (stood (WritingMeta stamp) there)) in
           absurd (omega (arith, has.1))
-      left_none is temporary_block there = no_temporary temporary_block refl there
-      left_none is (temporary_meta stamp) there = no_temporary (temporary_meta stamp) refl there
+      left_none is TemporaryBlock there = no_temporary TemporaryBlock refl there
+      left_none is (TemporaryMeta stamp) there = no_temporary (TemporaryMeta stamp) refl there
 
       module _ (files : FoundFiles) (is : found_of survey.blocks id ≡ Some files) where
         in_table : Contains survey.blocks.entries (id, files)
         in_table = found_listed id survey.blocks.entries files is
 
-        left_block : IsTrue (is_standing (view_of now id 1 block)) → files.block ≡ true
-        left_block there = sym (ap has_block is) ∙ exact.block ∙ stood block there
+        left_block : IsTrue (is_standing (view_of now id 1 Block)) → files.block ≡ true
+        left_block there = sym (ap has_block is) ∙ exact.block ∙ stood Block there
 
-        meta_there : (stamp : ℕ) → IsTrue (is_standing (view_of now id 1 (meta stamp))) → Contains files.metas.items stamp
-        meta_there stamp there = subst (λ (f : Option FoundFiles). Contains (metas_of f) stamp) is ((exact.metas stamp).1 (stood (meta stamp) there))
+        meta_there : (stamp : ℕ) → IsTrue (is_standing (view_of now id 1 (Meta stamp))) → Contains files.metas.items stamp
+        meta_there stamp there = subst (λ (f : Option FoundFiles). Contains (metas_of f) stamp) is ((exact.metas stamp).1 (stood (Meta stamp) there))
 
-        left_meta : (stamp : ℕ) → IsTrue (is_standing (view_of now id 1 (meta stamp))) → files.block ≡ true
+        left_meta : (stamp : ℕ) → IsTrue (is_standing (view_of now id 1 (Meta stamp))) → files.block ≡ true
         left_meta stamp there = elim (cases_Bool files.block) [
           | inl some ↦ some
-          | inr none ↦ absurd (not_cleared (meta stamp) there (clears_meta survey.blocks.entries survey.temporary id files in_table none stamp (meta_there stamp there)))
+          | inr none ↦ absurd (not_cleared (Meta stamp) there (clears_meta survey.blocks.entries survey.temporary id files in_table none stamp (meta_there stamp there)))
         ]
 
-        writing_meta_there : (stamp : ℕ) → IsTrue (is_standing (view_of now id 1 (writing_meta stamp))) → Contains files.writing_metas.items stamp
+        writing_meta_there : (stamp : ℕ) → IsTrue (is_standing (view_of now id 1 (WritingMeta stamp))) → Contains files.writing_metas.items stamp
         writing_meta_there stamp there =
-            subst (λ (f : Option FoundFiles). Contains (writing_metas_of f) stamp) is ((exact.writing_metas stamp).1 (stood (writing_meta stamp) there))
+            subst (λ (f : Option FoundFiles). Contains (writing_metas_of f) stamp) is ((exact.writing_metas stamp).1 (stood (WritingMeta stamp) there))
 
-        writing_there : IsTrue (is_standing (view_of now id 1 writing_block)) → files.writing ≡ true
-        writing_there there = sym (ap has_writing is) ∙ exact.writing ∙ stood writing_block there
+        writing_there : IsTrue (is_standing (view_of now id 1 WritingBlock)) → files.writing ≡ true
+        writing_there there = sym (ap has_writing is) ∙ exact.writing ∙ stood WritingBlock there
 
-        no_replica : (stamp : ℕ) → IsTrue (is_standing (view_of now id 1 (writing_meta stamp))) → (kept : ℕ) → outcome_of files ≡ Final kept → ⊥
+        no_replica : (stamp : ℕ) → IsTrue (is_standing (view_of now id 1 (WritingMeta stamp))) → (kept : ℕ) → outcome_of files ≡ Final kept → ⊥
         no_replica stamp there kept made =
-            not_cleared (writing_meta stamp) there (clears_writing_meta survey.blocks.entries survey.temporary id files in_table kept made stamp (writing_meta_there stamp there))
+            not_cleared (WritingMeta stamp) there (clears_writing_meta survey.blocks.entries survey.temporary id files in_table kept made stamp (writing_meta_there stamp there))
 
-        left_writing : (stamp : ℕ) → IsTrue (is_standing (view_of now id 1 (writing_meta stamp))) → files.writing ≡ true
+        left_writing : (stamp : ℕ) → IsTrue (is_standing (view_of now id 1 (WritingMeta stamp))) → files.writing ≡ true
         left_writing stamp there = elim (cases_Bool files.writing) [
           | inl some ↦ some
-          | inr none ↦ absurd (not_cleared (writing_meta stamp) there
+          | inr none ↦ absurd (not_cleared (WritingMeta stamp) there
               (clears_lone_meta survey.blocks.entries survey.temporary id files in_table (no_replica stamp there) none stamp (writing_meta_there stamp there)))
         ]
 
-        left_some : (f : File) → IsTrue (is_standing (view_of now id 1 f)) → Left files f
-        left_some block there = left_block there
-        left_some (meta stamp) there = (left_meta stamp there, meta_there stamp there)
-        left_some writing_block there = (
-          λ kept made. not_cleared writing_block there (clears_writing survey.blocks.entries survey.temporary id files in_table kept made (writing_there there)),
+        left_some : (f : BlockFile) → IsTrue (is_standing (view_of now id 1 f)) → Left files f
+        left_some Block there = left_block there
+        left_some (Meta stamp) there = (left_meta stamp there, meta_there stamp there)
+        left_some WritingBlock there = (
+          λ kept made. not_cleared WritingBlock there (clears_writing survey.blocks.entries survey.temporary id files in_table kept made (writing_there there)),
           writing_there there,
         )
-        left_some (writing_meta stamp) there = (no_replica stamp there, left_writing stamp there, writing_meta_there stamp there)
-        left_some temporary_block there = no_temporary temporary_block refl there
-        left_some (temporary_meta stamp) there = no_temporary (temporary_meta stamp) refl there
+        left_some (WritingMeta stamp) there = (no_replica stamp there, left_writing stamp there, writing_meta_there stamp there)
+        left_some TemporaryBlock there = no_temporary TemporaryBlock refl there
+        left_some (TemporaryMeta stamp) there = no_temporary (TemporaryMeta stamp) refl there
 
       module _ (M : List ℕ → Replica → Type 0) (told : Option (List World)) (entry : Option Entry) (left : List Leftover) (bytes : List ℕ)
-          (bytes_are : bytes ≡ slot_bytes (view_of was id 1 block))
+          (bytes_are : bytes ≡ slot_bytes (view_of was id 1 Block))
           (len_is : (len : ℕ) → has_block (found_of survey.blocks id) ≡ true → IsSizeOf told (block_path id) len → len ≡ length bytes)
-          (matches : (files : FoundFiles) → found_of survey.blocks id ≡ Some files → (made : MakesFinal files) → M (slot_bytes (view_of was id 1 (meta made.stamp))) (replica_of made.stamp bytes)) where
+          (matches : (files : FoundFiles) → found_of survey.blocks id ≡ Some files → (made : MakesFinal files) → M (slot_bytes (view_of was id 1 (Meta made.stamp))) (replica_of made.stamp bytes)) where
         stands_by : (found : Option FoundFiles) → found_of survey.blocks id ≡ found → SaysFound told id found entry left →
             BlockStands M (view_of now id) (block_books entry left) (cell_of bytes entry)
         stands_by None is says = none_stands M told id entry left bytes (view_of was id) (view_of now id)

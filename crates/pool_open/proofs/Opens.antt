@@ -16,7 +16,8 @@ use Rattle.map_model.specs.Cells.{Replica, Cell, Cells}
 use Rattle.map_model.specs.Copies.{Spot, BlockFiles, IsCopy, IsAlone, IsGreatestCopy, ReadsAs, OneWhole}
 use Rattle.map_model.specs.Openings.{shown_files, MakesCell, ReadsAlike}
 use Rattle.map_model.specs.Sound.{Metas, Knowledge, matching, exactly, Fits, HasSoundCopies, IsSound}
-use Rattle.map_model.specs.Slots.{block, meta, Slot, empty, holds, drafted, is_standing, bytes_in, slot_of, view_of, files_in}
+use Rattle.volume_layout.specs.declared.block_file.BlockFile.TheVariants.{Block, Meta}
+use Rattle.map_model.specs.Slots.{Slot, empty, holds, drafted, is_standing, bytes_in, slot_of, view_of, files_in}
 use Rattle.map_model.specs.Stands.{Leftover, Each, Agrees}
 use Rattle.map_model.proofs.Places.{absent_empty, no_number}
 use Rattle.map_model.proofs.SlotLemmas.{bytes-standing}
@@ -49,13 +50,13 @@ use Rattle.pool_open.proofs.Opened.{IsTable, IsSurveyed, plan_of, partly, block_
 abbrev pub bytes_told : Option (List World) → ℕ → ℕ → List ℕ
 bytes_told None id len = replicate len 0
 bytes_told (Some []) id len = replicate len 0
-bytes_told (Some (world ∷ worlds)) id len = slot_bytes (view_of world id 1 block)
+bytes_told (Some (world ∷ worlds)) id len = slot_bytes (view_of world id 1 Block)
 
 -- those of a meta file
 abbrev pub meta_told : Option (List World) → ℕ → ℕ → List ℕ
 meta_told None id stamp = []
 meta_told (Some []) id stamp = []
-meta_told (Some (world ∷ worlds)) id stamp = slot_bytes (view_of world id 1 (meta stamp))
+meta_told (Some (world ∷ worlds)) id stamp = slot_bytes (view_of world id 1 (Meta stamp))
 
 abbrev pub entry_len : Option Entry → ℕ
 entry_len None = 0
@@ -151,7 +152,7 @@ module _ (survey : Survey) (table : IsTable survey) (was : World) (surveyed : Is
   pub cleared_reads : (now : World) (image : Files) → Clears (plan_of survey) was now → Leaves now image → ReadsAlike (shown_files was) image
   cleared_reads now image clears leaves id valid replica reads =
       let found = found_of survey.blocks id in
-      let bytes = slot_bytes (view_of was id 1 block) in
+      let bytes = slot_bytes (view_of was id 1 Block) in
       let before : ReadsAs (files_in (view_of was id)) replica = subst (λ (files : BlockFiles). ReadsAs files replica) (shown_view was id surveyed.aside) reads in
       let as_was = reads_partly found (view_of was id) (view_of was id) (partly survey table was was surveyed (clears_none (plan_of survey) was) id valid) in
       let as_now = reads_partly found (view_of was id) (view_of now id) (partly survey table was now surveyed clears id valid) in
@@ -189,14 +190,14 @@ module _ (survey : Survey) (table : IsTable survey) (was : World) (surveyed : Is
 
     -- the length of the block file is its size
     pub size_here : (told : Option (List World)) (len : ℕ) → IsWorldOf told was → has_block (found_of survey.blocks id) ≡ true → IsSizeOf told (block_path id) len →
-        len ≡ length (slot_bytes (view_of was id 1 block))
+        len ≡ length (slot_bytes (view_of was id 1 Block))
     size_here told len is there size =
-        let standing : IsTrue (is_standing (view_of was id 1 block)) = sym own.block_is ∙ there in
-        let none = aside_no_draft id 1 block was refl surveyed.aside in
-        elim (size was is (λ absent. false≢true (sym (ap is_standing (view_absent was id 1 block refl absent)) ∙ standing))) [
+        let standing : IsTrue (is_standing (view_of was id 1 Block)) = sym own.block_is ∙ there in
+        let none = aside_no_draft id 1 Block was refl surveyed.aside in
+        elim (size was is (λ absent. false≢true (sym (ap is_standing (view_absent was id 1 Block refl absent)) ∙ standing))) [
           | inl sized ↦
-              let slot : view_of was id 1 block ≡ holds sized.0 =
-              view_slot was id 1 block refl
+              let slot : view_of was id 1 Block ≡ holds sized.0 =
+              view_slot was id 1 Block refl
               ∙ ap (λ d. slot_of d (was.settled 1 (block_path id))) (no_number was 1 (block_path id) none)
               ∙ ap (slot_of None) sized.1 in
               sym sized.2 ∙ sym (ap (λ s. length (slot_bytes s)) slot)
@@ -205,31 +206,31 @@ module _ (survey : Survey) (table : IsTable survey) (was : World) (surveyed : Is
 
     -- what is known of the meta of a replica, by what is of the world's copies
     pub sound_here : (M : List ℕ → Replica → Type 0) (files : FoundFiles) → found_of survey.blocks id ≡ Some files → (made : MakesFinal files) → HasSoundCopies M (shown_files was id) →
-        M (slot_bytes (view_of was id 1 (meta made.stamp))) (replica_of made.stamp (slot_bytes (view_of was id 1 block)))
+        M (slot_bytes (view_of was id 1 (Meta made.stamp))) (replica_of made.stamp (slot_bytes (view_of was id 1 Block)))
     sound_here M files is made sound =
         let view = view_of was id in
-        let bytes = slot_bytes (view 1 block) in
+        let bytes = slot_bytes (view 1 Block) in
         let copies : HasSoundCopies M (files_in view) = subst (λ (f : BlockFiles). HasSoundCopies M f) (shown_view was id surveyed.aside) sound in
         let read : ReadsAs (files_in view) (read_by (outcome_of files) bytes) =
         subst (λ (f : Option FoundFiles). ReadsAs (files_in view) (read_of f bytes)) is (reads_partly (found_of survey.blocks id) view view own) in
         let reads : ReadsAs (files_in view) (Some (replica_of made.stamp bytes)) = subst (λ (o : Outcome). ReadsAs (files_in view) (read_by o bytes)) made.is read in
         let spot : Spot = reads.0 in
         let greatest : IsGreatestCopy (files_in view) spot (replica_of made.stamp bytes) = reads.1 in
-        let here : spot.vol ≡ 1 = own.on_one spot.vol block (bytes-standing (view spot.vol block) (ap is_some greatest.copy.block)) in
-        let matched : IsSomeAnd (bytes_in (view spot.vol (meta made.stamp))) (λ content. M content (replica_of made.stamp bytes)) = copies spot (replica_of made.stamp bytes) greatest in
-        matched_slot (view 1 (meta made.stamp)) (λ content. M content (replica_of made.stamp bytes))
-        (subst (λ v. IsSomeAnd (bytes_in (view v (meta made.stamp))) (λ content. M content (replica_of made.stamp bytes))) here matched)
+        let here : spot.vol ≡ 1 = own.on_one spot.vol Block (bytes-standing (view spot.vol Block) (ap is_some greatest.copy.block)) in
+        let matched : IsSomeAnd (bytes_in (view spot.vol (Meta made.stamp))) (λ content. M content (replica_of made.stamp bytes)) = copies spot (replica_of made.stamp bytes) greatest in
+        matched_slot (view 1 (Meta made.stamp)) (λ content. M content (replica_of made.stamp bytes))
+        (subst (λ v. IsSomeAnd (bytes_in (view v (Meta made.stamp))) (λ content. M content (replica_of made.stamp bytes))) here matched)
 
     -- the meta of each copy is that on the volume
-    pub meta_here : HasSoundCopies (λ content replica. content ≡ slot_bytes (view_of was id 1 (meta replica.stamp))) (shown_files was id)
+    pub meta_here : HasSoundCopies (λ content replica. content ≡ slot_bytes (view_of was id 1 (Meta replica.stamp))) (shown_files was id)
     meta_here =
         let view = view_of was id in
-        subst (λ (f : BlockFiles). HasSoundCopies (λ content replica. content ≡ slot_bytes (view 1 (meta replica.stamp))) f) (sym (shown_view was id surveyed.aside))
+        subst (λ (f : BlockFiles). HasSoundCopies (λ content replica. content ≡ slot_bytes (view 1 (Meta replica.stamp))) f) (sym (shown_view was id surveyed.aside))
         (λ spot replica greatest.
-        let here : spot.vol ≡ 1 = own.on_one spot.vol block (bytes-standing (view spot.vol block) (ap is_some greatest.copy.block)) in
+        let here : spot.vol ≡ 1 = own.on_one spot.vol Block (bytes-standing (view spot.vol Block) (ap is_some greatest.copy.block)) in
         let has = KeepsStamp-meta (files_in view) spot replica.stamp greatest.copy.stamp in
-        subst (λ v. IsSomeAnd (bytes_in (view v (meta replica.stamp))) (λ content. content ≡ slot_bytes (view 1 (meta replica.stamp)))) (sym here)
-        (some_slot (view 1 (meta replica.stamp)) (subst (λ v. IsSome (bytes_in (view v (meta replica.stamp)))) here has)))
+        subst (λ v. IsSomeAnd (bytes_in (view v (Meta replica.stamp))) (λ content. content ≡ slot_bytes (view 1 (Meta replica.stamp)))) (sym here)
+        (some_slot (view 1 (Meta replica.stamp)) (subst (λ v. IsSome (bytes_in (view v (Meta replica.stamp)))) here has)))
 
 -- ---- the opening
 
@@ -274,7 +275,7 @@ module _ (survey : Survey) (before first second after : Option (List World)) (vo
   abbrev pub cells_are : Cells
   cells_are id = cell_of (cell_bytes id) (entries id)
 
-  bytes_here : (was : World) → IsWorldOf second was → (id : ℕ) → cell_bytes id ≡ slot_bytes (view_of was id 1 block)
+  bytes_here : (was : World) → IsWorldOf second was → (id : ℕ) → cell_bytes id ≡ slot_bytes (view_of was id 1 Block)
   bytes_here was is id = ap (λ (told : Option (List World)). bytes_told told id (entry_len (entries id))) (first_is was (opening.remains was is))
 
   len_here : (was : World) → IsWorldOf second was → (id : ℕ) → IsBlockId id → (len : ℕ) → has_block (found_of survey.blocks id) ≡ true → IsSizeOf second (block_path id) len →
@@ -300,7 +301,7 @@ module _ (survey : Survey) (before first second after : Option (List World)) (vo
   abbrev pub metas_are : Metas
   metas_are id stamp = meta_told first id stamp
 
-  meta_told_here : (was : World) → IsWorldOf second was → (id stamp : ℕ) → metas_are id stamp ≡ slot_bytes (view_of was id 1 (meta stamp))
+  meta_told_here : (was : World) → IsWorldOf second was → (id stamp : ℕ) → metas_are id stamp ≡ slot_bytes (view_of was id 1 (Meta stamp))
   meta_told_here was is id stamp = ap (λ (told : Option (List World)). meta_told told id stamp) (first_is was (opening.remains was is))
 
   metas_here : (was : World) → IsWorldOf second was → HasFiles (exactly metas_are) was
@@ -311,9 +312,9 @@ module _ (survey : Survey) (before first second after : Option (List World)) (vo
 
   fits_by : (known : Knowledge) → ((was : World) → IsWorldOf second was → HasFiles known was) → (was : World) → IsWorldOf second was → (id : ℕ) → IsBlockId id →
       (files : FoundFiles) → found_of survey.blocks id ≡ Some files → (made : MakesFinal files) →
-      Fits known id (slot_bytes (view_of was id 1 (meta made.stamp))) (replica_of made.stamp (cell_bytes id))
+      Fits known id (slot_bytes (view_of was id 1 (Meta made.stamp))) (replica_of made.stamp (cell_bytes id))
   fits_by known premise was is id valid files in_table made =
-      subst (λ (b : List ℕ). Fits known id (slot_bytes (view_of was id 1 (meta made.stamp))) (replica_of made.stamp b)) (sym (bytes_here was is id))
+      subst (λ (b : List ℕ). Fits known id (slot_bytes (view_of was id 1 (Meta made.stamp))) (replica_of made.stamp b)) (sym (bytes_here was is id))
       (sound_here survey opening.table was (surveyed was is) id valid (Fits known id) files in_table made (premise was is id valid))
 
   pub pool_stands : (known : Knowledge) → ((was : World) → IsWorldOf second was → HasFiles known was) → PoolStands after volumes entries found known cells_are

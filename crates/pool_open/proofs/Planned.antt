@@ -10,7 +10,9 @@ use Rattle.volume_layout.specs.Aside.{is_aside}
 use Rattle.volume_layout.specs.Paths.{IsBlockId, IsStamp, is_stamp, dir_path, own_dir, block_path, meta_path, rbw_block, rbw_meta}
 use Rattle.volume_layout.proofs.AsideLemmas.{is_aside-block_path, is_aside-meta_path, is_aside-rbw_block, is_aside-rbw_meta}
 use Rattle.volume_layout.proofs.Reading.{is_stamp-IsStamp, path_id}
-use Rattle.map_model.specs.Slots.{File, block, meta, path_of, is_file, same_file}
+use Rattle.volume_layout.specs.declared.block_file.BlockFile.{BlockFile}
+use Rattle.volume_layout.specs.declared.block_file.BlockFile.TheVariants.{Block, Meta}
+use Rattle.volume_layout.specs.BlockFiles.{path_of, is_file, same_file}
 use Rattle.map_model.proofs.Bridge.{path_id-file, path_of-injective}
 use Rattle.pool_survey.specs.declared.found.FoundFiles.{FoundFiles}
 use Rattle.pool_survey.specs.Found.{has_block}
@@ -57,23 +59,23 @@ module _ (found : ℕ → Option FoundFiles) where
     meta_file = λ id stamp valid stamped same. absurd (false≢true (sym (is_aside-meta_path id stamp) ∙ ap is_aside same ∙ aside));
   }
 
-  same_block : (id other : ℕ) (f g : File) → IsBlockId id → IsBlockId other → IsTrue (is_file f) → IsTrue (is_file g) → path_of id f ≡ path_of other g → id ≡ other
+  same_block : (id other : ℕ) (f g : BlockFile) → IsBlockId id → IsBlockId other → IsTrue (is_file f) → IsTrue (is_file g) → path_of id f ≡ path_of other g → id ≡ other
   same_block id other f g valid other_valid is_f is_g same =
       sym (path_id-file id f valid is_f) ∙ ap path_id same ∙ path_id-file other g other_valid is_g
 
-  not_meta : (stamp : ℕ) → block ≡ meta stamp → ⊥
-  not_meta stamp same = true≢false (ap (same_file block) same)
+  not_meta : (stamp : ℕ) → Block ≡ Meta stamp → ⊥
+  not_meta stamp same = true≢false (ap (same_file Block) same)
 
   spares_meta : (other_id other_stamp : ℕ) → IsBlockId other_id → IsStamp other_stamp → has_block (found other_id) ≡ false → Spares (meta_path other_id other_stamp)
   spares_meta other_id other_stamp other_valid other_stamped none =
       let is_other = is_stamp-IsStamp other_stamp other_stamped in
       record {
         block_file = λ id valid same.
-            let ids : id ≡ other_id = same_block id other_id block (meta other_stamp) valid other_valid refl is_other same in
-            not_meta other_stamp (path_of-injective other_id block (meta other_stamp) other_valid refl is_other
-            (subst (λ n. path_of n block ≡ path_of other_id (meta other_stamp)) ids same));
+            let ids : id ≡ other_id = same_block id other_id Block (Meta other_stamp) valid other_valid refl is_other same in
+            not_meta other_stamp (path_of-injective other_id Block (Meta other_stamp) other_valid refl is_other
+            (subst (λ n. path_of n Block ≡ path_of other_id (Meta other_stamp)) ids same));
         meta_file = λ id stamp valid stamped same.
-            let ids : id ≡ other_id = same_block id other_id (meta stamp) (meta other_stamp) valid other_valid stamped is_other same in
+            let ids : id ≡ other_id = same_block id other_id (Meta stamp) (Meta other_stamp) valid other_valid stamped is_other same in
             ap (λ n. has_block (found n)) ids ∙ none;
       }
 

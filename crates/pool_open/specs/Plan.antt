@@ -4,7 +4,8 @@ use Rattle.std.specs.List.{flat_map}
 use Rattle.std.specs.declared.string.String.{String}
 use Rattle.volume_layout.specs.Paths.{meta_path, rbw_block, rbw_meta}
 use Rattle.disk_model.specs.Files.{path_in}
-use Rattle.map_model.specs.Slots.{File, block, writing_block, writing_meta}
+use Rattle.volume_layout.specs.declared.block_file.BlockFile.{BlockFile}
+use Rattle.volume_layout.specs.declared.block_file.BlockFile.TheVariants.{Block, WritingBlock, WritingMeta}
 use Rattle.map_model.specs.Stands.{Leftover}
 use Rattle.pool_survey.specs.declared.found.FoundFiles.{FoundFiles}
 use Rattle.pool_open.specs.declared.outcome.Outcome.{Outcome}
@@ -47,11 +48,11 @@ abbrev pub cleared_paths : List (ℕ × FoundFiles) → List (List ℕ) → List
 cleared_paths blocks names = map (path_in (codes "tmp")) names ++ (flat_map superseded_paths blocks ++ flat_map orphan_paths blocks)
 
 -- a file that waits to be deleted with its block, on volume 1
-abbrev pub held_file : ℕ → ℕ → File → Leftover
+abbrev pub held_file : ℕ → ℕ → BlockFile → Leftover
 held_file stamp len file = record { stamp = stamp; vol = 1; file = file; len = len; held = true }
 
 -- the files of a block that waits: its block file, and what was being written, where an `rbw` block file stands
 abbrev pub kept_files : (stamp block_len writing_len : ℕ) → FoundFiles → List Leftover
 kept_files stamp block_len writing_len files =
-    (if files.block then held_file stamp block_len block ∷ [] else [])
-    ++ (if files.writing then held_file stamp writing_len writing_block ∷ map (λ meta. held_file stamp 0 (writing_meta meta)) files.writing_metas.items else [])
+    (if files.block then held_file stamp block_len Block ∷ [] else [])
+    ++ (if files.writing then held_file stamp writing_len WritingBlock ∷ map (λ meta. held_file stamp 0 (WritingMeta meta)) files.writing_metas.items else [])

@@ -2,8 +2,8 @@
 ghost use Rattle.std.specs.Prelude.{ℕ, ◌≡◌, ◌≢◌, ◌≤◌, ◌++◌, [], ◌∷◌, None, Some, if◌then◌else◌, IsErrOf, OnOk, IfOk, map};
 ghost use Rattle.volume_layout.specs.Paths as names;
 ghost use Rattle.disk_model.specs.Causes.{Rose};
-ghost use Rattle.map_model.specs.Slots.{block, writing_block, writing_meta};
-ghost use Rattle.pool_state.specs.Books.{entry_at, found_at, file_is};
+ghost use Rattle.volume_layout.specs.declared.block_file.BlockFile.TheVariants.{Block, WritingBlock, WritingMeta};
+ghost use Rattle.pool_state.specs.Books.{entry_at, found_at};
 ghost use Rattle.pool_survey.specs.Found.{AreBlocks, found_of};
 ghost use Rattle.pool_open.specs.Found.{IsSizeOf, SaysOutcome, SaysFound, IsWaitingEntry, IsFinalEntry, AddsFiles, KeepsOthers, SaysNothing};
 ghost use Rattle.pool_open.specs.Looking.{OnlyLooks};
@@ -13,11 +13,11 @@ use crate::clearing::VOLUME;
 use crate::outcome::{Outcome, decide};
 use crate::paths::block_id;
 use disk_model::{DiskError, Failed, PoolDisks};
-use pool_state::{BlockFile, Entry, Leftover, ReplicaMap, State};
+use pool_state::{Entry, Leftover, ReplicaMap, State};
 use pool_survey::FoundFiles;
 use std::alloc::{AllocError, Global};
 use std::collections::BTreeMap;
-use volume_layout::{BlockId, Stamp, block_path, rbw_block};
+use volume_layout::{BlockFile, BlockId, Stamp, block_path, rbw_block};
 
 /// The size of a file in bytes. One that went away since it was listed has none.
 fn size_of<D: PoolDisks>(disks: &mut D, path: &str) -> Result<u64, DiskError>
@@ -66,7 +66,7 @@ fn push_file(
     len: u64,
     file: BlockFile,
 ) -> Result<(), AllocError>
-    ensures { OnOk result (AddsFiles id (held_file stamp len (file_is file) ∷ []) found.old.items found.new.items) }
+    ensures { OnOk result (AddsFiles id (held_file stamp len file ∷ []) found.old.items found.new.items) }
 {
     found.push(Leftover {
         id,
@@ -85,7 +85,7 @@ fn push_metas(
     stamp: Stamp,
     metas: &[Stamp],
 ) -> Result<(), AllocError>
-    ensures { OnOk result (AddsFiles id (map (λ meta. held_file stamp 0 (writing_meta meta)) metas.now) found.old.items found.new.items) }
+    ensures { OnOk result (AddsFiles id (map (λ meta. held_file stamp 0 (WritingMeta meta)) metas.now) found.old.items found.new.items) }
 {
     for meta in metas {
         push_file(found, id, stamp, 0, BlockFile::WritingMeta(*meta))?;
@@ -101,7 +101,7 @@ fn push_block(
     len: u64,
     stands: bool,
 ) -> Result<(), AllocError>
-    ensures { OnOk result (AddsFiles id (if stands then held_file stamp len block ∷ [] else []) found.old.items found.new.items) }
+    ensures { OnOk result (AddsFiles id (if stands then held_file stamp len Block ∷ [] else []) found.old.items found.new.items) }
 {
     if stands {
         push_file(found, id, stamp, len, BlockFile::Block)
@@ -119,7 +119,7 @@ fn push_writing(
     files: &FoundFiles,
 ) -> Result<(), AllocError>
     ensures { OnOk result (AddsFiles id
-        (if files.now.writing then held_file stamp len writing_block ∷ map (λ meta. held_file stamp 0 (writing_meta meta)) files.now.writing_metas.items else [])
+        (if files.now.writing then held_file stamp len WritingBlock ∷ map (λ meta. held_file stamp 0 (WritingMeta meta)) files.now.writing_metas.items else [])
         found.old.items found.new.items) }
 {
     if !files.writing {

@@ -5,7 +5,8 @@ use Rattle.disk_model.specs.Worlds.{World}
 use Rattle.volume_layout.specs.Paths.{IsBlockId}
 use Rattle.map_model.specs.Sound.{Knowledge, nothing, matching, exactly, Fits, learned}
 use Rattle.map_model.specs.Cells.{Replica, Cell, Cells, absent, growing}
-use Rattle.map_model.specs.Slots.{File, View, is_standing, view_of}
+use Rattle.volume_layout.specs.declared.block_file.BlockFile.{BlockFile}
+use Rattle.map_model.specs.Slots.{View, is_standing, view_of}
 use Rattle.map_model.specs.Stands.{Agrees, Leftover, Each, BlockBooks, BlockStands}
 use Rattle.map_model.proofs.Knowing.{stands_by}
 use Rattle.map_model.specs.Tenures.{books_of}
@@ -17,7 +18,7 @@ use Rattle.pool_state.specs.Stands.{with_cell, IsVolume, IsNotWaiting, PoolStand
 use Rattle.pool_state.specs.Reaching.{Reaches, ComesFrom}
 
 -- a view in which nothing stands
-bare_stands : (M : List ℕ → Replica → Type 0) (view : View) → ((vol : ℕ) (file : File) → IsFalse (is_standing (view vol file))) → BlockStands M view (books_of None [] None) absent
+bare_stands : (M : List ℕ → Replica → Type 0) (view : View) → ((vol : ℕ) (file : BlockFile) → IsFalse (is_standing (view vol file))) → BlockStands M view (books_of None [] None) absent
 bare_stands M view bare = record {
   agrees = tt;
   content = tt;

@@ -9,7 +9,9 @@ use Rattle.map_model.specs.Cells.{Replica, Cell, Cells, absent, final, growing, 
 use Rattle.map_model.specs.Allows.{Allows}
 use Rattle.map_model.specs.Sound.{Knowledge, matching, Fits}
 use Rattle.map_model.specs.Steps.{Step, delete, failed, done, is_writing, delete_refusal}
-use Rattle.map_model.specs.Slots.{File, block, meta, writing_block, writing_meta, View}
+use Rattle.volume_layout.specs.declared.block_file.BlockFile.{BlockFile}
+use Rattle.volume_layout.specs.declared.block_file.BlockFile.TheVariants.{Block, Meta, WritingBlock, WritingMeta}
+use Rattle.map_model.specs.Slots.{View}
 use Rattle.map_model.specs.Stands.{Agrees, WritesOver, IsInDoubt, is_final, in_doubt, is_waiting, Leftover, BlockStands}
 use Rattle.map_model.specs.Tenures.{books_of, deleted, delete_failed}
 use Rattle.map_model.proofs.Delete.{delete_final_stands, delete_unsure_stands, delete_waiting_stands}
@@ -75,7 +77,7 @@ free_cell waiting e is agrees = refl
 
 -- removals show what their moments pass
 pub adds_removals : {told : Option (List World)} {volumes : ℕ} {entries : ℕ → Option Entry} {found : ℕ → List Leftover} {known : Knowledge} {cells : Cells}
-    (stands : PoolStands told volumes entries found known cells) (id : ℕ) (valid : IsBlockId id) {vol : ℕ} {files : List File} {done : Type 0} {new : Option (List World)} {past since : ℕ → Files → Type 0} →
+    (stands : PoolStands told volumes entries found known cells) (id : ℕ) (valid : IsBlockId id) {vol : ℕ} {files : List BlockFile} {done : Type 0} {new : Option (List World)} {past since : ℕ → Files → Type 0} →
     RemovesFiles id vol files done told new past since → (cell : Cell) → Passes stands id valid (RemovesSome vol files) cell → AddsOnly past since (Shown known cells (with_cell cells id cell))
 adds_removals stands id valid {vol = vol} {files = files} removes cell passes t image s = elim (removes.moments t image s) [
   | inl earlier ↦ inl earlier
@@ -112,8 +114,8 @@ module _ {told : Option (List World)} {volumes : ℕ} {entries : ℕ → Option 
     replica_of = let cell = final_cell (cells id) e is agrees_here in (cell.0, cell.1)
 
     module _ (replica : Replica) (cell_is : cells id ≡ final replica) where
-      abbrev pub final_files : List File
-      final_files = block ∷ meta e.stamp ∷ []
+      abbrev pub final_files : List BlockFile
+      final_files = Block ∷ Meta e.stamp ∷ []
 
       own_final : (view : View) → BlockStands (Fits known id) view (block_books (entries id) (found id)) (cells id) →
           BlockStands (Fits known id) view (books_of (Some (book_entry (with_state Finalised e))) [] None) (final replica)
@@ -168,8 +170,8 @@ module _ {told : Option (List World)} {volumes : ℕ} {entries : ℕ → Option 
     doubt_of = unsure_cell (cells id) e is agrees_here
 
     module _ (x y : Option Replica) (cut : Bool) (cell_is : cells id ≡ unsure x y cut) where
-      abbrev pub doubt_files : List File
-      doubt_files = block ∷ meta e.stamp ∷ writing_block ∷ writing_meta e.stamp ∷ []
+      abbrev pub doubt_files : List BlockFile
+      doubt_files = Block ∷ Meta e.stamp ∷ WritingBlock ∷ WritingMeta e.stamp ∷ []
 
       own_doubt : (view : View) → BlockStands (Fits known id) view (block_books (entries id) (found id)) (cells id) →
           BlockStands (Fits known id) view (books_of (Some (book_entry (with_state Unsure e))) [] None) (unsure x y cut)

@@ -8,10 +8,12 @@ use Rattle.disk_model.proofs.Laws.{only_one}
 use Rattle.mem_disks.specs.History.{empty_world}
 use Rattle.std.specs.Result.{is_err, OnOk}
 use Rattle.map_model.specs.Cells.{Cell, Cells, growing}
-use Rattle.map_model.specs.Slots.{File, is_file, is_standing, view_of}
+use Rattle.volume_layout.specs.declared.block_file.BlockFile.{BlockFile}
+use Rattle.volume_layout.specs.BlockFiles.{is_file}
+use Rattle.map_model.specs.Slots.{is_standing, view_of}
 use Rattle.pool_state.specs.Stands.{with_cell, HoldNoBlock}
 
-nothing_stands : (id vol : ℕ) (f : File) → IsFalse (is_standing (view_of empty_world id vol f))
+nothing_stands : (id vol : ℕ) (f : BlockFile) → IsFalse (is_standing (view_of empty_world id vol f))
 unfolding view_of
 nothing_stands id vol f = elim (cases_Bool (is_file f)) [
   | inl is ↦ rw is refl

@@ -11,7 +11,10 @@ use Rattle.map_model.specs.Cells.{Replica, Cell, Cells, absent, final, growing, 
 use Rattle.map_model.specs.Sound.{Knowledge, nothing, matching, exactly, Fits, learned}
 use Rattle.map_model.specs.Allows.{Allows}
 use Rattle.map_model.specs.Steps.{Step, CarriedOut, finish, drop_write, Reply}
-use Rattle.map_model.specs.Slots.{File, meta, writing_block, writing_meta, is_file, path_of, drafted, View, view_of, publish_in}
+use Rattle.volume_layout.specs.declared.block_file.BlockFile.{BlockFile}
+use Rattle.volume_layout.specs.declared.block_file.BlockFile.TheVariants.{Meta, WritingBlock, WritingMeta}
+use Rattle.volume_layout.specs.BlockFiles.{is_file, path_of}
+use Rattle.map_model.specs.Slots.{drafted, View, view_of, publish_in}
 use Rattle.map_model.specs.Stands.{Agrees, Leftover, is_written, in_doubt, BlockStands}
 use Rattle.map_model.specs.Tenures.{books_of, Fails, Writer, writer_entry, final_entry, new_replica, both_published, both_dropped, FinishesFresh, finished, DropsFresh, dropped}
 use Rattle.map_model.proofs.FinishFresh.{finish_fresh_stands, fresh_books}
@@ -55,7 +58,7 @@ reaches_told id step other old new reaches more = record {
 }
 
 -- a publish of a draft whose place, bytes and target are known
-module _ (id vol : ℕ) (from target : File) (number : ℕ) (bytes content : List ℕ) (valid : IsBlockId id) (is_from : IsTrue (is_file from)) (is_target : IsTrue (is_file target))
+module _ (id vol : ℕ) (from target : BlockFile) (number : ℕ) (bytes content : List ℕ) (valid : IsBlockId id) (is_from : IsTrue (is_file from)) (is_target : IsTrue (is_file target))
     (place : DraftPlace) (path : List ℕ) (same_place : place ≡ draft_at number vol (path_of id from)) (same_path : path ≡ path_of id target)
     (old new : Option (List World)) (same_bytes : IsSome old → content ≡ bytes) where
   pub reaches_published_at : {HasAnswer : World → Type 0} → PicksOne HasAnswer (published place content path) old new →
@@ -115,17 +118,17 @@ module _ {told : Option (List World)} {volumes : ℕ} {entries : ℕ → Option 
   -- both drafts stand
   pub meta_stands : StillStands told p.meta
   meta_stands world is = subst (HasDraft world) (sym belongs.meta)
-      (view_drafted world p.id p.vol (writing_meta p.stamp) (is_stamp-IsStamp p.stamp belongs.valid.1) belongs.meta_number (written_in world is).writer.1)
+      (view_drafted world p.id p.vol (WritingMeta p.stamp) (is_stamp-IsStamp p.stamp belongs.valid.1) belongs.meta_number (written_in world is).writer.1)
 
   -- and the block's once the meta is published
-  pub block_stands : (told' : Option (List World)) → Reaches p.id (λ before after. after ≡ publish_in before p.vol (writing_meta p.stamp) (meta p.stamp) (meta_of belongs)) told told' →
+  pub block_stands : (told' : Option (List World)) → Reaches p.id (λ before after. after ≡ publish_in before p.vol (WritingMeta p.stamp) (Meta p.stamp) (meta_of belongs)) told told' →
       StillStands told' p.block
   block_stands told' reaches world is =
-      let from : ComesFrom p.id (λ before after. after ≡ publish_in before p.vol (writing_meta p.stamp) (meta p.stamp) (meta_of belongs)) told world = reaches.each world is in
-      let there : view_of from.was p.id p.vol writing_block ≡ drafted belongs.block_number = (written_in from.was from.is).writer.0 in
+      let from : ComesFrom p.id (λ before after. after ≡ publish_in before p.vol (WritingMeta p.stamp) (Meta p.stamp) (meta_of belongs)) told world = reaches.each world is in
+      let there : view_of from.was p.id p.vol WritingBlock ≡ drafted belongs.block_number = (written_in from.was from.is).writer.0 in
       subst (HasDraft world) (sym belongs.block)
-      (view_drafted world p.id p.vol writing_block refl belongs.block_number
-      (subst (λ (v : View). v p.vol writing_block ≡ drafted belongs.block_number) (sym from.stepped) there))
+      (view_drafted world p.id p.vol WritingBlock refl belongs.block_number
+      (subst (λ (v : View). v p.vol WritingBlock ≡ drafted belongs.block_number) (sym from.stepped) there))
 
   module _ (left : ℕ) (grows : cells p.id ≡ growing p.stamp None bytes left) (fits : Fits known p.id (meta_of belongs) (record { stamp = p.stamp; bytes = bytes })) where
     -- the new replica

@@ -8,7 +8,10 @@ use Rattle.volume_layout.specs.Paths.{IsBlockId}
 use Rattle.map_model.specs.World.{DraftsAside}
 use Rattle.map_model.specs.Cells.{Replica, Cell, Cells, absent, final, growing, unsure, waiting}
 use Rattle.map_model.specs.Sound.{Knowledge, Fits}
-use Rattle.map_model.specs.Slots.{File, block, meta, Slot, empty, holds, path_of, is_file, is_aside_file, slot_at, view_of}
+use Rattle.volume_layout.specs.declared.block_file.BlockFile.{BlockFile}
+use Rattle.volume_layout.specs.declared.block_file.BlockFile.TheVariants.{Block, Meta}
+use Rattle.volume_layout.specs.BlockFiles.{path_of, is_file, is_aside_file}
+use Rattle.map_model.specs.Slots.{Slot, empty, holds, slot_at, view_of}
 use Rattle.map_model.specs.Stands.{Agrees, Leftover, Each, WritesOver, IsInDoubt, is_final, is_waiting, PairStands, BlockStands}
 use Rattle.map_model.proofs.Aside.{aside_no_draft}
 use Rattle.map_model.proofs.Bridge.{view_holds}
@@ -54,7 +57,7 @@ looked_images {told' = told'} {entries = entries} {found = found} {known = known
 
 -- no draft stands at a finalised file
 pub lend_free : {told : Option (List World)} {volumes : ℕ} {entries : ℕ → Option Entry} {found : ℕ → List Leftover} {known : Knowledge} {cells : Cells} → PoolStands told volumes entries found known cells →
-    (id vol : ℕ) (f : File) → is_aside_file f ≡ false → NoDraftAt told vol (path_of id f)
+    (id vol : ℕ) (f : BlockFile) → is_aside_file f ≡ false → NoDraftAt told vol (path_of id f)
 lend_free stands id vol f apart world is = aside_no_draft id vol f world apart (stands.aside world is)
 
 -- the entry of a replica is that of a final cell
@@ -70,7 +73,7 @@ named_when true slot content is = refl
 named_when false slot content is = absurd cc
 
 -- a file that a view shows is one
-shown_file : (world : World) (id vol : ℕ) (f : File) (content : List ℕ) → view_of world id vol f ≡ holds content → IsTrue (is_file f)
+shown_file : (world : World) (id vol : ℕ) (f : BlockFile) (content : List ℕ) → view_of world id vol f ≡ holds content → IsTrue (is_file f)
 unfolding view_of
 shown_file world id vol f content is = named_when (is_file f) (slot_at world vol (path_of id f)) content is
 
@@ -94,33 +97,33 @@ module _ {told : Option (List World)} {volumes : ℕ} {entries : ℕ → Option 
 
   -- so the reader of the block file tells the replica's bytes
   lent_bytes : {R : Type 0} (told' : Option (List World)) (bytes : R → Option (List ℕ)) (lent : Option R) (replica : Replica) → cells id ≡ final replica →
-      PicksOne (λ w. w.settled e.vol (path_of id block) ≡ file_of bytes lent) (λ w. w) told told' → IsSome told → reader_bytes bytes lent ≡ Some replica.bytes
+      PicksOne (λ w. w.settled e.vol (path_of id Block) ≡ file_of bytes lent) (λ w. w) told told' → IsSome told → reader_bytes bytes lent ≡ Some replica.bytes
   lent_bytes told' bytes lent replica cell_is call tells =
       let list = told_list told tells in
       let picked = call.picked list.0 list.1 in
       let pair = pair_stands replica cell_is picked.0 (list.0, list.1, picked.1) in
-      told_file bytes lent replica.bytes (sym picked.2 ∙ (view_holds picked.0 id e.vol block refl replica.bytes pair.block_file).file)
+      told_file bytes lent replica.bytes (sym picked.2 ∙ (view_holds picked.0 id e.vol Block refl replica.bytes pair.block_file).file)
 
   -- and that of the meta file the bytes that match them
   lent_meta : {R : Type 0} (told' : Option (List World)) (bytes : R → Option (List ℕ)) (lent : Option R) (replica : Replica) → cells id ≡ final replica → e.stamp ≡ replica.stamp →
-      PicksOne (λ w. w.settled e.vol (path_of id (meta e.stamp)) ≡ file_of bytes lent) (λ w. w) told told' →
+      PicksOne (λ w. w.settled e.vol (path_of id (Meta e.stamp)) ≡ file_of bytes lent) (λ w. w) told told' →
       ((all : List ℕ) → reader_bytes bytes lent ≡ Some all → length all < 2 ^ 64) → IsSome told → IsMetaOf known id (reader_bytes bytes lent) replica
   lent_meta told' bytes lent replica cell_is stamp_is call limit tells =
       let list = told_list told tells in
       let picked = call.picked list.0 list.1 in
       let pair = pair_stands replica cell_is picked.0 (list.0, list.1, picked.1) in
-      let shown : view_of picked.0 id e.vol (meta e.stamp) ≡ holds pair.content =
-      subst (λ s. view_of picked.0 id e.vol (meta s) ≡ holds pair.content) (sym stamp_is) pair.meta_file in
+      let shown : view_of picked.0 id e.vol (Meta e.stamp) ≡ holds pair.content =
+      subst (λ s. view_of picked.0 id e.vol (Meta s) ≡ holds pair.content) (sym stamp_is) pair.meta_file in
       let tells_it = told_file bytes lent pair.content
-      (sym picked.2 ∙ (view_holds picked.0 id e.vol (meta e.stamp) (shown_file picked.0 id e.vol (meta e.stamp) pair.content shown) pair.content shown).file) in
+      (sym picked.2 ∙ (view_holds picked.0 id e.vol (Meta e.stamp) (shown_file picked.0 id e.vol (Meta e.stamp) pair.content shown) pair.content shown).file) in
       record { content = pair.content; is = tells_it; few = limit pair.content tells_it; matches = pair.matches }
 
 -- WHAT IS LENT: the block file, and then the meta file
 pub lends : {R : Type 0} {told told' told'' : Option (List World)} {volumes volumes' : ℕ} {entries : ℕ → Option Entry} {found : ℕ → List Leftover} {known : Knowledge} {cells : Cells} →
     PoolStands told volumes entries found known cells → PoolStands told' volumes' entries found known cells →
     (id : ℕ) → IsBlockId id → (e : Entry) → entries id ≡ Some e → e.state ≡ Finalised → (bytes : R → Option (List ℕ)) (lent lent' : Option R) →
-    PicksOne (λ w. w.settled e.vol (path_of id block) ≡ file_of bytes lent) (λ w. w) told told' →
-    PicksOne (λ w. w.settled e.vol (path_of id (meta e.stamp)) ≡ file_of bytes lent') (λ w. w) told' told'' →
+    PicksOne (λ w. w.settled e.vol (path_of id Block) ≡ file_of bytes lent) (λ w. w) told told' →
+    PicksOne (λ w. w.settled e.vol (path_of id (Meta e.stamp)) ≡ file_of bytes lent') (λ w. w) told' told'' →
     ((all : List ℕ) → reader_bytes bytes lent' ≡ Some all → length all < 2 ^ 64) →
     Lends known id told (cells id) e.stamp e.len (reader_bytes bytes lent) (reader_bytes bytes lent')
 lends {told' = told'} {told'' = told''} {cells = cells} stands stands' id valid e has is bytes lent lent' first second limit =

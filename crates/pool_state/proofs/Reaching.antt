@@ -5,7 +5,9 @@ use Rattle.disk_model.specs.Told.{IsWorldOf, PicksOne, StandsBeforeOrAfter}
 use Rattle.disk_model.proofs.Laws.{from_done}
 use Rattle.volume_layout.specs.Paths.{IsBlockId}
 use Rattle.map_model.specs.World.{DraftsAside}
-use Rattle.map_model.specs.Slots.{File, is_file, is_aside_file, path_of, View, view_of, create_in, publish_in, remove_in}
+use Rattle.volume_layout.specs.declared.block_file.BlockFile.{BlockFile}
+use Rattle.volume_layout.specs.BlockFiles.{is_file, is_aside_file, path_of}
+use Rattle.map_model.specs.Slots.{View, view_of, create_in, publish_in, remove_in}
 use Rattle.map_model.specs.Tenures.{Fails}
 use Rattle.pool_state.specs.Reaching.{ComesFrom, Reaches, Stays, Then}
 use Rattle.map_model.proofs.Bridge.{view_created, view_published, view_removed, other_created, other_published, other_removed}
@@ -88,7 +90,7 @@ module _ (id : ℕ) (change : World → World) (step : View → View) (old new :
         ];
   }
 
-module _ (id vol : ℕ) (f : File) (number : ℕ) (valid : IsBlockId id) (is : IsTrue (is_file f)) (stands_aside : is_aside_file f ≡ true) (old new : Option (List World)) where
+module _ (id vol : ℕ) (f : BlockFile) (number : ℕ) (valid : IsBlockId id) (is : IsTrue (is_file f)) (stands_aside : is_aside_file f ≡ true) (old new : Option (List World)) where
   -- a create of one of the block's files that was done
   pub reaches_created : {HasAnswer : World → Type 0} → PicksOne HasAnswer (created (draft_at number vol (path_of id f))) old new →
       Reaches id (λ before after. after ≡ create_in before vol f number) old new
@@ -105,7 +107,7 @@ module _ (id vol : ℕ) (f : File) (number : ℕ) (valid : IsBlockId id) (is : I
       (λ other valid_other apart world. other_created id other vol f valid valid_other apart is world number)
       (λ world. aside_created_file id number vol f world stands_aside)
 
-module _ (id vol : ℕ) (from target : File) (number : ℕ) (bytes : List ℕ) (valid : IsBlockId id) (is_from : IsTrue (is_file from)) (is_target : IsTrue (is_file target))
+module _ (id vol : ℕ) (from target : BlockFile) (number : ℕ) (bytes : List ℕ) (valid : IsBlockId id) (is_from : IsTrue (is_file from)) (is_target : IsTrue (is_file target))
     (old new : Option (List World)) where
   -- a publish of one of the block's drafts that was done
   pub reaches_published : {HasAnswer : World → Type 0} → PicksOne HasAnswer (published (draft_at number vol (path_of id from)) bytes (path_of id target)) old new →
@@ -123,7 +125,7 @@ module _ (id vol : ℕ) (from target : File) (number : ℕ) (bytes : List ℕ) (
       (λ other valid_other apart world. other_published id other vol from target valid valid_other apart is_from is_target world number bytes)
       (λ world. aside_published (draft_at number vol (path_of id from)) bytes (path_of id target) world)
 
-module _ (id vol : ℕ) (f : File) (valid : IsBlockId id) (is : IsTrue (is_file f)) (path : List ℕ) (same : path ≡ path_of id f) (old new : Option (List World)) where
+module _ (id vol : ℕ) (f : BlockFile) (valid : IsBlockId id) (is : IsTrue (is_file f)) (path : List ℕ) (same : path ≡ path_of id f) (old new : Option (List World)) where
   -- a removal of one of the block's files that was done
   pub reaches_removed_at : {HasAnswer : World → Type 0} → PicksOne HasAnswer (removed vol path) old new →
       Reaches id (λ before after. after ≡ remove_in before vol f) old new
@@ -142,7 +144,7 @@ module _ (id vol : ℕ) (f : File) (valid : IsBlockId id) (is : IsTrue (is_file 
       (subst (λ p. StandsBeforeOrAfter (removed vol p) old new) same call)
 
 -- the same at a path's text
-module _ (id vol : ℕ) (f : File) (number : ℕ) (valid : IsBlockId id) (is : IsTrue (is_file f)) (stands_aside : is_aside_file f ≡ true) (path : List ℕ) (same : path ≡ path_of id f)
+module _ (id vol : ℕ) (f : BlockFile) (number : ℕ) (valid : IsBlockId id) (is : IsTrue (is_file f)) (stands_aside : is_aside_file f ≡ true) (path : List ℕ) (same : path ≡ path_of id f)
     (old new : Option (List World)) where
   pub reaches_created_at : {HasAnswer : World → Type 0} → PicksOne HasAnswer (created (draft_at number vol path)) old new →
       Reaches id (λ before after. after ≡ create_in before vol f number) old new

@@ -1,16 +1,16 @@
 -- Removing files of a block, one after the other.
-use Rattle.std.proofs.Common.{◌≡◌, ◌⊎◌, ◌<◌, ◌≤◌, get_or, inl, inr, ℕ, suc, List, [], ◌∷◌, ◌++◌, length, map, take, Option, refl, sym, ◌∙◌, ap, subst}
+use Rattle.std.proofs.Common.{◌≡◌, ◌⊎◌, ◌<◌, ◌≤◌, get_or, inl, inr, ℕ, suc, List, [], ◌∷◌, ◌++◌, length, take, Option, refl, sym, ◌∙◌, ap, subst}
 use Rattle.std.proofs.Math.Seq.{take-suc}
-use Rattle.std.proofs.lemmas.List.{get_or-map, length-map, take_all}
+use Rattle.std.proofs.lemmas.List.{take_all}
 use Rattle.std.proofs.lemmas.Bool.{cases_eq, eq-eqb, ne_eqb}
 use Rattle.disk_model.specs.Files.{Files}
 use Rattle.disk_model.specs.Worlds.{World}
 use Rattle.disk_model.specs.Told.{CanLeave}
-use Rattle.map_model.specs.Slots.{File, View, remove_in}
+use Rattle.volume_layout.specs.declared.block_file.BlockFile.{BlockFile}
+use Rattle.map_model.specs.Slots.{View, remove_in}
 use Rattle.map_model.specs.Tenures.{Fails, remove_all}
-use Rattle.pool_state.specs.declared.leftover.BlockFile.{BlockFile}
 use Rattle.pool_state.specs.declared.leftover.Leftover.{Leftover}
-use Rattle.pool_state.specs.Books.{file_is, book_leftover, of_block}
+use Rattle.pool_state.specs.Books.{book_leftover, of_block}
 use Rattle.pool_state.specs.Reaching.{ComesFrom, Reaches, Stays, Then, RemovesSome, RemovesAll, RemovesFiles}
 use Rattle.pool_state.proofs.Reaching.{reaches_same, reaches_then}
 
@@ -32,18 +32,18 @@ reaches_as id one two old new reaches is_so = record {
 }
 
 -- the files before the next one, and that one
-pub all_but_next : (view : View) (vol : ℕ) (files : List File) (next : File) → remove_all view vol (files ++ next ∷ []) ≡ remove_in (remove_all view vol files) vol next
+pub all_but_next : (view : View) (vol : ℕ) (files : List BlockFile) (next : BlockFile) → remove_all view vol (files ++ next ∷ []) ≡ remove_in (remove_all view vol files) vol next
 all_but_next view vol [] next = refl
 all_but_next view vol (file ∷ files) next = all_but_next (remove_in view vol file) vol files next
 
 -- as far as the removals have come
-pub record RemovedSoFar (id vol : ℕ) (files : List File) (at : ℕ) (old now : Option (List World)) (past since : ℕ → Files → Type 0) : Type 0 where
+pub record RemovedSoFar (id vol : ℕ) (files : List BlockFile) (at : ℕ) (old now : Option (List World)) (past since : ℕ → Files → Type 0) : Type 0 where
   pub reached : Reaches id (RemovesAll vol (take at files)) old now
   pub moments : (t : ℕ) (image : Files) → since t image →
       past t image ⊎ ((told : Option (List World)) × Reaches id (RemovesSome vol files) old told × CanLeave told image)
 
-module _ {id vol : ℕ} {files : List File} {at : ℕ} {old now new : Option (List World)} {past mid since : ℕ → Files → Type 0} (so_far : RemovedSoFar id vol files at old now past mid)
-    (file : File) (next : take (suc at) files ≡ take at files ++ file ∷ []) (time : (t : ℕ) (image : Files) → since t image → mid t image ⊎ CanLeave new image) where
+module _ {id vol : ℕ} {files : List BlockFile} {at : ℕ} {old now new : Option (List World)} {past mid since : ℕ → Files → Type 0} (so_far : RemovedSoFar id vol files at old now past mid)
+    (file : BlockFile) (next : take (suc at) files ≡ take at files ++ file ∷ []) (time : (t : ℕ) (image : Files) → since t image → mid t image ⊎ CanLeave new image) where
   one_more : (before after : View) → Then (RemovesAll vol (take at files)) (λ v w. w ≡ remove_in v vol file) before after → RemovesAll vol (take (suc at) files) before after
   one_more before after stepped = stepped.2 ∙ ap (λ v. remove_in v vol file) stepped.1
       ∙ sym (all_but_next before vol (take at files) file) ∙ ap (remove_all before vol) (sym next)
@@ -80,11 +80,11 @@ module _ {id vol : ℕ} {files : List File} {at : ℕ} {old now new : Option (Li
       }
 
 -- no removal yet
-pub none_removed : (id vol : ℕ) (files : List File) (old : Option (List World)) (past : ℕ → Files → Type 0) → RemovedSoFar id vol files 0 old old past past
+pub none_removed : (id vol : ℕ) (files : List BlockFile) (old : Option (List World)) (past : ℕ → Files → Type 0) → RemovedSoFar id vol files 0 old old past past
 none_removed id vol files old past = record { reached = reaches_as id Stays (RemovesAll vol (take 0 files)) old old (reaches_same id old old refl) (λ before after same. same); moments = λ t image s. inl s }
 
 -- all removals are done
-pub all_removed : {id vol : ℕ} {files : List File} {at : ℕ} {old now : Option (List World)} {past since : ℕ → Files → Type 0} → RemovedSoFar id vol files at old now past since →
+pub all_removed : {id vol : ℕ} {files : List BlockFile} {at : ℕ} {old now : Option (List World)} {past since : ℕ → Files → Type 0} → RemovedSoFar id vol files at old now past since →
     take at files ≡ files → (done : Type 0) → RemovesFiles id vol files done old now past since
 all_removed {id = id} {vol = vol} {files = files} {at = at} {old = old} {now = now} so_far whole done = record {
   some = reaches_as id (RemovesAll vol (take at files)) (RemovesSome vol files) old now so_far.reached (λ before after all. (at, all));
@@ -94,14 +94,12 @@ all_removed {id = id} {vol = vol} {files = files} {at = at} {old = old} {now = n
 
 -- the files up to one of them
 pub files_up_to : (files : List BlockFile) (at : ℕ) (file : BlockFile) → at < length files → file ≡ get_or files at file →
-    take (suc at) (map file_is files) ≡ take at (map file_is files) ++ file_is file ∷ []
-files_up_to files at file within is =
-    take-suc (map file_is files) at (file_is file) (subst (λ n. at < n) (sym (length-map files file_is)) within)
-    ∙ ap (λ f. take at (map file_is files) ++ f ∷ []) (get_or-map file_is files at file (file_is file) within ∙ ap file_is (sym is))
+    take (suc at) files ≡ take at files ++ file ∷ []
+files_up_to files at file within is = take-suc files at file within ∙ ap (λ f. take at files ++ f ∷ []) (sym is)
 
 -- and all of them
-pub files_all : (files : List BlockFile) (at : ℕ) → length files ≤ at → take at (map file_is files) ≡ map file_is files
-files_all files at past = take_all at (map file_is files) (subst (λ n. n ≤ at) (sym (length-map files file_is)) past)
+pub files_all : (files : List BlockFile) (at : ℕ) → length files ≤ at → take at files ≡ files
+files_all files at past = take_all at files past
 
 -- the files of a block that the opening found, up to the first one
 pub none_up_to : (id : ℕ) (files : List Leftover) (at : ℕ) (leftover : Leftover) → at < length files → leftover ≡ get_or files at leftover → (leftover.id ≡ id → ⊥) →

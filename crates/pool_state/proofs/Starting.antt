@@ -9,7 +9,10 @@ use Rattle.volume_layout.specs.Paths.{IsBlockId, IsStamp}
 use Rattle.map_model.specs.Cells.{Cell, Cells, absent, final, growing, unsure, waiting}
 use Rattle.map_model.specs.Sound.{Knowledge, Fits}
 use Rattle.map_model.specs.Steps.{Step, start_write, write_refusal, Reply, failed, memory, done}
-use Rattle.map_model.specs.Slots.{File, writing_block, writing_meta, is_file, is_standing, path_of, View, view_of, create_in}
+use Rattle.volume_layout.specs.declared.block_file.BlockFile.{BlockFile}
+use Rattle.volume_layout.specs.declared.block_file.BlockFile.TheVariants.{WritingBlock, WritingMeta}
+use Rattle.volume_layout.specs.BlockFiles.{is_file, path_of}
+use Rattle.map_model.specs.Slots.{is_standing, View, view_of, create_in}
 use Rattle.map_model.specs.Stands.{Agrees, WritesOver, IsInDoubt, is_final, is_waiting, BlockStands, Leftover}
 use Rattle.map_model.specs.Tenures.{books_of, Writer, both_created, StartsWrite, started}
 use Rattle.map_model.proofs.StartWrite.{start_write_stands}
@@ -136,7 +139,7 @@ module _ {told : Option (List World)} {volumes : ℕ} {entries : ℕ → Option 
         (subst (λ left. BlockStands (Fits known id) view (block_books None left) (cells id)) no_files
         (subst (λ (e : Option Entry). BlockStands (Fits known id) view (block_books e (found id)) (cells id)) none own))
 
-    bare : (view : View) → BlockStands (Fits known id) view (books_of None [] None) absent → (vol : ℕ) (f : File) → IsFalse (is_standing (view vol f))
+    bare : (view : View) → BlockStands (Fits known id) view (books_of None [] None) absent → (vol : ℕ) (f : BlockFile) → IsFalse (is_standing (view vol f))
     bare view own vol f = elim (cases_Bool (is_standing (view vol f))) [
       | inl stands_there ↦ elim (own.accounted vol f stands_there) [
         | inl (inl names) ↦ absurd names
@@ -147,17 +150,17 @@ module _ {told : Option (List World)} {volumes : ℕ} {entries : ℕ → Option 
     ]
 
     -- no draft stands at any of its files
-    pub start_free : (vol : ℕ) (f : File) → IsTrue (is_file f) → NoDraftAt told vol (path_of id f)
+    pub start_free : (vol : ℕ) (f : BlockFile) → IsTrue (is_file f) → NoDraftAt told vol (path_of id f)
     start_free vol f is world there =
         view_free world id vol f is (bare (view_of world id) (own_absent (view_of world id) (stands.blocks world there id valid)) vol f)
 
     -- nor at its meta file once its block's draft stands
-    pub start_free_meta : (told' : Option (List World)) (vol number stamp : ℕ) → IsStamp stamp → IsTrue (is_file (writing_meta stamp)) →
-        Reaches id (λ before after. after ≡ create_in before vol writing_block number) told told' → NoDraftAt told' vol (path_of id (writing_meta stamp))
+    pub start_free_meta : (told' : Option (List World)) (vol number stamp : ℕ) → IsStamp stamp → IsTrue (is_file (WritingMeta stamp)) →
+        Reaches id (λ before after. after ≡ create_in before vol WritingBlock number) told told' → NoDraftAt told' vol (path_of id (WritingMeta stamp))
     start_free_meta told' vol number stamp stamped is reaches world there =
-        let from : ComesFrom id (λ before after. after ≡ create_in before vol writing_block number) told world = reaches.each world there in
-        let empty = bare (view_of from.was id) (own_absent (view_of from.was id) (stands.blocks from.was from.is id valid)) vol (writing_meta stamp) in
-        view_free world id vol (writing_meta stamp) is (subst (λ (v : View). IsFalse (is_standing (v vol (writing_meta stamp)))) (sym from.stepped) empty)
+        let from : ComesFrom id (λ before after. after ≡ create_in before vol WritingBlock number) told world = reaches.each world there in
+        let empty = bare (view_of from.was id) (own_absent (view_of from.was id) (stands.blocks from.was from.is id valid)) vol (WritingMeta stamp) in
+        view_free world id vol (WritingMeta stamp) is (subst (λ (v : View). IsFalse (is_standing (v vol (WritingMeta stamp)))) (sym from.stepped) empty)
 
     -- want of memory is an answer, and leaves it absent
     pub memory_step : (stamp need : ℕ) → need < 2 ^ 64 → Step unlimited (cells id) (start_write stamp need) memory (cells id)
@@ -201,24 +204,24 @@ module _ {told : Option (List World)} {volumes : ℕ} {entries : ℕ → Option 
 
         -- both drafts stand: the block grows
         grows_own : (b m : ℕ) (before after : View) →
-            Then (λ v w. w ≡ create_in v vol writing_block b) (λ v w. w ≡ create_in v vol (writing_meta stamp) m) before after →
+            Then (λ v w. w ≡ create_in v vol WritingBlock b) (λ v w. w ≡ create_in v vol (WritingMeta stamp) m) before after →
             BlockStands (Fits known id) before (block_books (entries id) (found id)) (cells id) →
             BlockStands (Fits known id) after (block_books (Some (entry_in id stamp need vol (Writing b m))) (found id)) (growing stamp None [] need)
         grows_own b m before after stepped own =
             subst (λ l. BlockStands (Fits known id) after (block_books (Some (entry_in id stamp need vol (Writing b m))) l) (growing stamp None [] need)) (sym no_files)
             (subst (λ v. BlockStands (Fits known id) v (block_books (Some (entry_in id stamp need vol (Writing b m))) []) (growing stamp None [] need))
-            (sym (stepped.2 ∙ ap (λ v. create_in v vol (writing_meta stamp) m) stepped.1))
+            (sym (stepped.2 ∙ ap (λ v. create_in v vol (WritingMeta stamp) m) stepped.1))
             (start_write_stands (Fits known id) before None (starter stamp need vol b m) (both_created before (starter stamp need vol b m)) (block_books (Some (entry_in id stamp need vol (Writing b m))) [])
             (growing stamp None [] need) (own_absent before own) stamped tt started))
 
-        pub start_grows : (b m : ℕ) → Reaches id (Then (λ before after. after ≡ create_in before vol writing_block b) (λ before after. after ≡ create_in before vol (writing_meta stamp) m)) told told' →
+        pub start_grows : (b m : ℕ) → Reaches id (Then (λ before after. after ≡ create_in before vol WritingBlock b) (λ before after. after ≡ create_in before vol (WritingMeta stamp) m)) told told' →
             ((other : ℕ) → entries' other ≡ (if other == id then Some (entry_in id stamp need vol (Writing b m)) else entries other)) →
             PoolStands told' volumes' entries' found' known (with_cell cells id (growing stamp None [] need))
         start_grows b m reaches changed =
-            pool_stands stands id valid (Then (λ before after. after ≡ create_in before vol writing_block b) (λ before after. after ≡ create_in before vol (writing_meta stamp) m)) reaches
+            pool_stands stands id valid (Then (λ before after. after ≡ create_in before vol WritingBlock b) (λ before after. after ≡ create_in before vol (WritingMeta stamp) m)) reaches
             same_volumes (Some (entry_in id stamp need vol (Writing b m))) (found id) (growing stamp None [] need) changed
             (found_kept id found found' same_found) (refl, omega arith, tt) (first, within) (stands.found_placed id valid) (λ e. no_files) (grows_own b m)
 
-        pub grows_passes : (b m : ℕ) → Passes stands id valid (Then (λ before after. after ≡ create_in before vol writing_block b) (λ before after. after ≡ create_in before vol (writing_meta stamp) m)) (growing stamp None [] need)
-        grows_passes b m = passes_end stands id valid (Then (λ before after. after ≡ create_in before vol writing_block b) (λ before after. after ≡ create_in before vol (writing_meta stamp) m))
+        pub grows_passes : (b m : ℕ) → Passes stands id valid (Then (λ before after. after ≡ create_in before vol WritingBlock b) (λ before after. after ≡ create_in before vol (WritingMeta stamp) m)) (growing stamp None [] need)
+        grows_passes b m = passes_end stands id valid (Then (λ before after. after ≡ create_in before vol WritingBlock b) (λ before after. after ≡ create_in before vol (WritingMeta stamp) m))
             (growing stamp None [] need) (Some (entry_in id stamp need vol (Writing b m))) (found id) (λ e. no_files) (grows_own b m)

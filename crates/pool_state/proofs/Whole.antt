@@ -6,7 +6,9 @@ use Rattle.disk_model.specs.Worlds.{World}
 use Rattle.disk_model.specs.Told.{CanLeave}
 use Rattle.map_model.specs.Cells.{Replica, Cell, Cells, absent, final, growing, unsure, waiting}
 use Rattle.map_model.specs.Copies.{Spot, BlockFiles, own_spot, IsCopy, IsAlone, OneWhole}
-use Rattle.map_model.specs.Slots.{File, block, meta, is_standing, View, files_in, view_of}
+use Rattle.volume_layout.specs.declared.block_file.BlockFile.{BlockFile}
+use Rattle.volume_layout.specs.declared.block_file.BlockFile.TheVariants.{Block, Meta}
+use Rattle.map_model.specs.Slots.{is_standing, View, files_in, view_of}
 use Rattle.map_model.specs.Sound.{Knowledge, Fits}
 use Rattle.map_model.specs.Stands.{is_final, is_waiting, Entry as BookEntry, Leftover, StateNames, HasOwnLeftovers, IsListed, Agrees, WritesOver, IsInDoubt, HasNoPair, BlockStands}
 use Rattle.map_model.proofs.Owned.{IsOwn, own_file}
@@ -24,7 +26,7 @@ abbrev pub IsWholeIn : View → Type 0
 IsWholeIn view = (spot : Spot) (replica : Replica) → IsCopy (files_in view) spot replica → IsAlone (files_in view) spot
 
 -- the one meta that an entry names
-named_meta : (state : State) (stamp other : ℕ) → StateNames (entry_state state) stamp (meta other) → other ≡ stamp
+named_meta : (state : State) (stamp other : ℕ) → StateNames (entry_state state) stamp (Meta other) → other ≡ stamp
 named_meta Finalised stamp other names = names
 named_meta (Writing b m) stamp other names = absurd names
 named_meta Unsure stamp other (inl is) = is
@@ -32,7 +34,7 @@ named_meta Unsure stamp other (inr base) = absurd base
 named_meta (Waiting b m) stamp other names = absurd names
 
 -- only a block that waits has leftovers
-not_left : (state : State) (entry : Entry) (found : List Leftover) (v : ℕ) (f : File) → IsNoWait state → found ≡ [] →
+not_left : (state : State) (entry : Entry) (found : List Leftover) (v : ℕ) (f : BlockFile) → IsNoWait state → found ≡ [] →
     HasOwnLeftovers (entry_state state) × IsListed (left_in entry state ++ found) v f → ⊥
 not_left Finalised entry found v f settled clean listed = subst (λ l. IsListed l v f) clean listed.1
 not_left (Writing b m) entry found v f settled clean listed = listed.0
@@ -54,37 +56,37 @@ not_waiting (Waiting b m) e waiting is agrees not = absurd (not refl)
 alone : (M : List ℕ → Replica → Type 0) (view : View) (e : Entry) (found : List Leftover) (cell : Cell) → BlockStands M view (block_books (Some e) found) cell →
     IsNoWait e.state → found ≡ [] → (spot : Spot) (replica : Replica) → IsCopy (files_in view) spot replica → IsAlone (files_in view) spot
 alone M view e found cell stands settled clean spot replica copy =
-    let at : (v : ℕ) (f : File) → IsOwn f → IsTrue (is_standing (view v f)) → (e.vol ≡ v) × StateNames (entry_state e.state) e.stamp f =
+    let at : (v : ℕ) (f : BlockFile) → IsOwn f → IsTrue (is_standing (view v f)) → (e.vol ≡ v) × StateNames (entry_state e.state) e.stamp f =
     λ v f own there. elim (own_file M view (block_books (Some e) found) cell stands v f own there) [
       | inl names ↦ names
       | inr listed ↦ absurd (not_left e.state e found v f settled clean listed)
     ] in
     let has = KeepsStamp-meta (files_in view) spot replica.stamp copy.stamp in
-    let here : e.vol ≡ spot.vol = (at spot.vol block tt (bytes-standing (view spot.vol block) (ap is_some copy.block))).0 in
-    let own : replica.stamp ≡ e.stamp = named_meta e.state e.stamp replica.stamp (at spot.vol (meta replica.stamp) tt (bytes-standing (view spot.vol (meta replica.stamp)) has)).1 in
+    let here : e.vol ≡ spot.vol = (at spot.vol Block tt (bytes-standing (view spot.vol Block) (ap is_some copy.block))).0 in
+    let own : replica.stamp ≡ e.stamp = named_meta e.state e.stamp replica.stamp (at spot.vol (Meta replica.stamp) tt (bytes-standing (view spot.vol (Meta replica.stamp)) has)).1 in
     record {
       one_meta = (
         replica.stamp,
         record {
           stands = has;
-          only = λ other is. named_meta e.state e.stamp other (at spot.vol (meta other) tt (bytes-standing (view spot.vol (meta other)) is)).1 ∙ sym own;
+          only = λ other is. named_meta e.state e.stamp other (at spot.vol (Meta other) tt (bytes-standing (view spot.vol (Meta other)) is)).1 ∙ sym own;
         },
       );
-      no_block = λ other is. ap own_spot (sym (at other.vol block tt (bytes-standing (view other.vol block) is)).0 ∙ here);
-      no_meta = λ other stamp is. ap own_spot (sym (at other.vol (meta stamp) tt (bytes-standing (view other.vol (meta stamp)) is)).0 ∙ here);
+      no_block = λ other is. ap own_spot (sym (at other.vol Block tt (bytes-standing (view other.vol Block) is)).0 ∙ here);
+      no_meta = λ other stamp is. ap own_spot (sym (at other.vol (Meta stamp) tt (bytes-standing (view other.vol (Meta stamp)) is)).0 ∙ here);
     }
 
 -- a block without a pair has no copy
 pub waiting_whole : (view : View) → HasNoPair view → IsWholeIn view
 waiting_whole view none spot replica copy =
-    absurd (none spot.vol replica.stamp (bytes-standing (view spot.vol block) (ap is_some copy.block))
-    (bytes-standing (view spot.vol (meta replica.stamp)) (KeepsStamp-meta (files_in view) spot replica.stamp copy.stamp)))
+    absurd (none spot.vol replica.stamp (bytes-standing (view spot.vol Block) (ap is_some copy.block))
+    (bytes-standing (view spot.vol (Meta replica.stamp)) (KeepsStamp-meta (files_in view) spot replica.stamp copy.stamp)))
 
 -- so is that of any block
 pub block_whole : (M : List ℕ → Replica → Type 0) (view : View) (entry : Option Entry) (found : List Leftover) (cell : Cell) → BlockStands M view (block_books entry found) cell →
     (IsNotWaiting entry → found ≡ []) → IsWholeIn view
 block_whole M view None found cell stands clean spot replica copy =
-    absurd (own_file M view (block_books None found) cell stands spot.vol block tt (bytes-standing (view spot.vol block) (ap is_some copy.block)))
+    absurd (own_file M view (block_books None found) cell stands spot.vol Block tt (bytes-standing (view spot.vol Block) (ap is_some copy.block)))
 block_whole M view (Some e) found absent stands clean spot replica copy = absurd stands.agrees
 block_whole M view (Some e) found (final r) stands clean spot replica copy =
     let settled = not_waiting e.state (book_entry e) (final r) refl stands.agrees (λ bad. absurd cc) in

@@ -5,10 +5,8 @@ use Rattle.std.specs.BTreeMap.{get}
 use Rattle.pool_state.specs.declared.entry.Entry.{Entry}
 use Rattle.pool_state.specs.declared.entry.State.{State}
 use Rattle.pool_state.specs.declared.entry.State.TheVariants.{Finalised, Writing, Unsure, Waiting}
-use Rattle.pool_state.specs.declared.leftover.BlockFile.{BlockFile}
-use Rattle.pool_state.specs.declared.leftover.BlockFile.TheVariants.{Block, Meta, WritingBlock, WritingMeta}
 use Rattle.pool_state.specs.declared.leftover.Leftover.{Leftover}
-use Rattle.map_model.specs.Slots.{File, block, meta, writing_block, writing_meta}
+use Rattle.volume_layout.specs.declared.block_file.BlockFile.TheVariants.{WritingBlock, WritingMeta}
 use Rattle.map_model.specs.Stands.{EntryState, is_final, is_written, in_doubt, is_waiting, Entry as BookEntry, Leftover as BookLeftover, BlockBooks}
 use Rattle.pool_state.specs.declared.replica_map.ReplicaMap.{ReplicaMap}
 
@@ -33,10 +31,10 @@ book_entry entry = record { stamp = entry.stamp; len = entry.len; vol = entry.vo
 
 -- the files of a writer that was given up, as leftovers
 abbrev pub left_block : Entry → BookLeftover
-left_block entry = record { stamp = entry.stamp; vol = entry.vol; file = writing_block; len = entry.len; held = true }
+left_block entry = record { stamp = entry.stamp; vol = entry.vol; file = WritingBlock; len = entry.len; held = true }
 
 abbrev pub left_meta : Entry → BookLeftover
-left_meta entry = record { stamp = entry.stamp; vol = entry.vol; file = writing_meta entry.stamp; len = 0; held = true }
+left_meta entry = record { stamp = entry.stamp; vol = entry.vol; file = WritingMeta entry.stamp; len = 0; held = true }
 
 -- those of them that an entry in this state lists
 abbrev pub left_in : Entry → State → List BookLeftover
@@ -51,16 +49,9 @@ abbrev pub own_left : Option Entry → List BookLeftover
 own_left None = []
 own_left (Some entry) = left_in entry entry.state
 
--- a file of a block, to that definition
-abbrev pub file_is : BlockFile → File
-file_is Block = block
-file_is (Meta stamp) = meta stamp
-file_is WritingBlock = writing_block
-file_is (WritingMeta stamp) = writing_meta stamp
-
 -- a file that the opening found, to that definition
 abbrev pub book_leftover : Leftover → BookLeftover
-book_leftover leftover = record { stamp = leftover.stamp; vol = leftover.vol; file = file_is leftover.file; len = leftover.len; held = true }
+book_leftover leftover = record { stamp = leftover.stamp; vol = leftover.vol; file = leftover.file; len = leftover.len; held = true }
 
 -- those of one block
 abbrev pub of_block : ℕ → List Leftover → List BookLeftover

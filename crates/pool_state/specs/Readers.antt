@@ -9,7 +9,8 @@ use Rattle.disk_model.specs.Marks.{Mark, mark_of}
 use Rattle.disk_model.specs.Worlds.{World}
 use Rattle.disk_model.specs.Told.{InEachWorld}
 use Rattle.map_model.specs.Cells.{Replica, Cell, final}
-use Rattle.map_model.specs.Slots.{block, meta, path_of}
+use Rattle.volume_layout.specs.declared.block_file.BlockFile.TheVariants.{Block, Meta}
+use Rattle.volume_layout.specs.BlockFiles.{path_of}
 use Rattle.map_model.specs.Sound.{Knowledge, Fits}
 use Rattle.pool_state.specs.declared.pool_record.Pool.{Pool}
 use Rattle.pool_state.specs.declared.read_pair.ReadPair.{ReadPair}
@@ -53,8 +54,8 @@ file_of bytes (Some reader) = bytes reader
 -- in each world these are a block's file and its meta file of this stamp, on this volume
 pub record AreFiles (told : Option (List World)) (id vol stamp : ℕ)
     (block_file meta_file : Option (List ℕ)) : Type 0 where
-  pub block_is : InEachWorld told (λ world. world.settled vol (path_of id block) ≡ block_file)
-  pub meta_is : InEachWorld told (λ world. world.settled vol (path_of id (meta stamp)) ≡ meta_file)
+  pub block_is : InEachWorld told (λ world. world.settled vol (path_of id Block) ≡ block_file)
+  pub meta_is : InEachWorld told (λ world. world.settled vol (path_of id (Meta stamp)) ≡ meta_file)
 
 -- some reader of this number failed
 pub record FaultyReader {R : Type 0} (number_of faults_of : R → ℕ) (number : ℕ) : Type 0 where

@@ -10,7 +10,8 @@ use Rattle.volume_layout.specs.Paths.{IsBlockId}
 use Rattle.map_model.specs.World.{DraftsAside}
 use Rattle.map_model.specs.Sound.{Knowledge, nothing, Fits}
 use Rattle.map_model.specs.Cells.{Cell, Cells}
-use Rattle.map_model.specs.Slots.{File, is_standing, view_of}
+use Rattle.volume_layout.specs.declared.block_file.BlockFile.{BlockFile}
+use Rattle.map_model.specs.Slots.{is_standing, view_of}
 use Rattle.map_model.specs.Stands.{Agrees, Leftover, Each, BlockStands}
 use Rattle.pool_state.specs.declared.entry.Entry.{Entry}
 use Rattle.pool_state.specs.declared.entry.State.{State}
@@ -51,7 +52,7 @@ pub record PoolStands (told : Option (List World)) (volumes : ℕ) (entries : �
 
 -- no file of a block stands in any world, and every draft stands aside
 pub record HoldNoBlock (told : Option (List World)) : Type 0 where
-  pub none : InEachWorld told (λ world. (id : ℕ) → IsBlockId id → (vol : ℕ) (file : File) → IsFalse (is_standing (view_of world id vol file)))
+  pub none : InEachWorld told (λ world. (id : ℕ) → IsBlockId id → (vol : ℕ) (file : BlockFile) → IsFalse (is_standing (view_of world id vol file)))
   pub aside : InEachWorld told DraftsAside
 
 module _ {D S T R : Type 0} {g : Ghosts D S T R} {d : drafts.Ghosts T S} {s : sealed.Ghosts S} {r : readers.Ghosts R} where

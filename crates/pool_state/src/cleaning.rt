@@ -1,22 +1,21 @@
 //! Removing files of a block.
-ghost use Rattle.std.specs.Prelude.{◌≡◌, ◌≢◌, ◌≤◌, ◌<◌, ℕ, true, false, [], Some, length, suc, map, All, IsOk, IsErr, IfOk, IsTrue, OnOk, if◌then◌else◌};
+ghost use Rattle.std.specs.Prelude.{◌≡◌, ◌≢◌, ◌≤◌, ◌<◌, ℕ, true, false, [], Some, length, suc, All, IsOk, IsErr, IfOk, IsTrue, OnOk, if◌then◌else◌};
 ghost use Rattle.disk_model.specs.Causes.{Rose};
 ghost use Rattle.disk_model.specs.Marks.{GoesOn};
 ghost use Rattle.volume_layout.specs.Paths.{IsBlockId};
 ghost use Rattle.map_model.specs.Cells.{Cells};
 ghost use Rattle.map_model.specs.Sound.{nothing};
-ghost use Rattle.map_model.specs.Slots.{is_file};
-ghost use Rattle.pool_state.specs.Books.{entry_at, found_at, file_is, with_state, IsFirstOf};
+ghost use Rattle.volume_layout.specs.BlockFiles.{is_file};
+ghost use Rattle.pool_state.specs.Books.{entry_at, found_at, with_state, IsFirstOf};
 ghost use Rattle.pool_state.specs.Reaching.{RemovesFiles};
 ghost use Rattle.pool_state.specs.Tenures.{Rests};
 ghost use Rattle.pool_state.specs.Stands.{Stands, StandsForSome};
 ghost use Rattle.pool_state.specs.declared.entry.State.TheVariants.{Waiting};
 
 use crate::entry::{Entry, State};
-use crate::leftover::BlockFile;
 use crate::pool_record::Pool;
 use disk_model::{Failed, PoolDisks};
-use volume_layout::{BlockId, rbw_block, rbw_meta};
+use volume_layout::{BlockFile, BlockId, rbw_block, rbw_meta};
 
 /// Removes files of a block from a volume, one after the other, up to the first removal that fails.
 pub fn remove_files<D: PoolDisks>(
@@ -27,7 +26,7 @@ pub fn remove_files<D: PoolDisks>(
 ) -> Result<(), Failed>
     requires low { 1 ≤ vol }
     requires high { vol ≤ D.volume_count disks.old }
-    ensures removes { RemovesFiles id vol (map file_is files.now) (IsOk result) (D.worlds disks.old) (D.worlds disks.new) (D.left_since disks.old) (D.left_since disks.new) }
+    ensures removes { RemovesFiles id vol files.now (IsOk result) (D.worlds disks.old) (D.worlds disks.new) (D.left_since disks.old) (D.left_since disks.new) }
     ensures valid { IsBlockId id }
     ensures goes_on { GoesOn D.PoolDisks disks.old disks.new }
     ensures failed { IsErr result → Rose (D.faults disks.old) (D.faults disks.new) }

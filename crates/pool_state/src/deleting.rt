@@ -14,10 +14,9 @@ ghost use Rattle.pool_state.specs.declared.entry.State.TheVariants.{Finalised, U
 
 use crate::cleaning::remove_files;
 use crate::entry::{Entry, State};
-use crate::leftover::BlockFile;
 use crate::pool_record::Pool;
 use disk_model::PoolDisks;
-use volume_layout::BlockId;
+use volume_layout::{BlockFile, BlockId};
 
 /// Why a block was not deleted.
 #[derive(Clone, Copy, Debug, PartialEq, Eq)]

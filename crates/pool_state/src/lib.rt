@@ -16,7 +16,7 @@ mod start_write;
 
 pub use deleting::DeleteFault;
 pub use entry::{Entry, State};
-pub use leftover::{BlockFile, Leftover};
+pub use leftover::Leftover;
 pub use pair_draft::{PushFault, SealFault, SealedPair, Writing};
 pub use pool::{close_pool, make_pool};
 pub use pool_record::Pool;

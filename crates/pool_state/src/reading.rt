@@ -6,22 +6,21 @@ ghost use Rattle.disk_model.specs.Told.{NoDraftAt, CanLeave, PicksOne, StandsBef
 ghost use Rattle.disk_model.specs.Marks.{GivenBetween, GoesOn};
 ghost use Rattle.map_model.specs.Cells.{Cells};
 ghost use Rattle.map_model.specs.Sound.{Knowledge, nothing};
-ghost use Rattle.map_model.specs.Slots.{path_of};
+ghost use Rattle.volume_layout.specs.BlockFiles.{path_of};
 ghost use Rattle.map_model.specs.Steps.{Step, read};
 ghost use Rattle.pool_state.specs.Answers.{unlimited, start_fault, read_fault};
-ghost use Rattle.pool_state.specs.Books.{entry_at, file_is};
+ghost use Rattle.pool_state.specs.Books.{entry_at};
 ghost use Rattle.pool_state.specs.Tenures.{Rests};
 ghost use Rattle.pool_state.specs.Stands.{Stands, StandsForSome};
 ghost use Rattle.pool_state.specs.Readers.{reader_bytes, block_bytes, meta_bytes, file_of, Lends, AreFiles, LooksForPair};
 
 use crate::entry::State;
-use crate::leftover::BlockFile;
 use crate::pool_record::Pool;
 use crate::read_pair::ReadPair;
 use crate::start_fault::StartFault;
 use disk_model::{DiskError, PoolDisks};
 use std::alloc::Global;
-use volume_layout::BlockId;
+use volume_layout::{BlockFile, BlockId};
 
 /// Lends a reader of a file of a block, or none where the file is absent.
 fn lend_file<D: PoolDisks>(
@@ -33,9 +32,9 @@ fn lend_file<D: PoolDisks>(
 ) -> Result<Option<D::Reader>, StartFault>
     requires low { 1 ≤ vol }
     requires high { vol ≤ D.volume_count disks.old }
-    requires settled { NoDraftAt (D.worlds disks.old) vol (path_of id (file_is file)) }
+    requires settled { NoDraftAt (D.worlds disks.old) vol (path_of id file) }
     ensures file { IfOk result (λ lent.
-        PicksOne (λ w. w.settled vol (path_of id (file_is file)) ≡ file_of D.Reader.bytes lent) (λ w. w)
+        PicksOne (λ w. w.settled vol (path_of id file) ≡ file_of D.Reader.bytes lent) (λ w. w)
         (D.worlds disks.old) (D.worlds disks.new)) }
     ensures limit { (all : List ℕ) →
         IfOk result (λ lent. reader_bytes D.Reader.bytes lent ≡ Some all → length all < 2 ^ 64) }

@@ -1,26 +1,25 @@
-use Rattle.std.proofs.Common.{◌∙◌, subst, map, arith}
+use Rattle.std.proofs.Common.{◌∙◌, subst, arith}
 use Rattle.std.proofs.lemmas.Bool.{false≢true}
-use Rattle.pool_state.specs.Books.{file_is}
 use Rattle.pool_state.proofs.Removals.{RemovedSoFar, next_removed, removal_fails, all_removed, files_up_to, files_all}
 use Rattle.pool_state.proofs.Reaching.{reaches_removed_at, reaches_remove_at}
 use Rattle.pool_state.proofs.cleaning.remove_files.Goals as goal
 
 pub returns-in-Err-clause-removes : goal.returns-in-Err-clause-removes
 returns-in-Err-clause-removes g c =
-    removal_fails c.loop-at.invariant.so_far (file_is c.index-files-at.result)
+    removal_fails c.loop-at.invariant.so_far c.index-files-at.result
     (files_up_to c.args.files.now c.loop-at.at c.index-files-at.result (omega (arith, c.loop-at-test.true, c.loop-at.auto.at-end)) c.index-files-at.is)
     c.remove.ensures.time.nothing_else _ (λ ok. absurd (false≢true ok))
-    (reaches_remove_at c.args.id c.args.vol (file_is c.index-files-at.result) c.get-valid.ensures.in_range c.path.ensures.valid _ (c.as_str.ensures ∙ c.path.ensures.text) _ _ c.remove.ensures.worlds)
+    (reaches_remove_at c.args.id c.args.vol c.index-files-at.result c.get-valid.ensures.in_range c.path.ensures.valid _ (c.as_str.ensures ∙ c.path.ensures.text) _ _ c.remove.ensures.worlds)
 
 pub loop-at-preserved : goal.loop-at-preserved
 loop-at-preserved g c = record {
   so_far =
-      subst (λ n. RemovedSoFar c.args.id c.args.vol (map file_is c.args.files.now) n (g.D.PoolDisks.worlds c.args.disks.now) (g.D.PoolDisks.worlds c.remove.new.self) (g.D.PoolDisks.left_since c.args.disks.now) (g.D.PoolDisks.left_since c.remove.new.self))
+      subst (λ n. RemovedSoFar c.args.id c.args.vol c.args.files.now n (g.D.PoolDisks.worlds c.args.disks.now) (g.D.PoolDisks.worlds c.remove.new.self) (g.D.PoolDisks.left_since c.args.disks.now) (g.D.PoolDisks.left_since c.remove.new.self))
       (omega arith)
-      (next_removed c.loop-at.invariant.so_far (file_is c.index-files-at.result)
+      (next_removed c.loop-at.invariant.so_far c.index-files-at.result
       (files_up_to c.args.files.now c.loop-at.at c.index-files-at.result (omega (arith, c.loop-at-test.true, c.loop-at.auto.at-end)) c.index-files-at.is)
       c.remove.ensures.time.nothing_else
-      (reaches_removed_at c.args.id c.args.vol (file_is c.index-files-at.result) c.get-valid.ensures.in_range c.path.ensures.valid _ (c.as_str.ensures ∙ c.path.ensures.text) _ _ c.in-Ok.ensures.ok));
+      (reaches_removed_at c.args.id c.args.vol c.index-files-at.result c.get-valid.ensures.in_range c.path.ensures.valid _ (c.as_str.ensures ∙ c.path.ensures.text) _ _ c.in-Ok.ensures.ok));
   goes_on =
       let was = c.loop-at.invariant.goes_on in
       record {

@@ -1,5 +1,5 @@
 use Rattle.std.proofs.Common.{◌==◌, if◌then◌else◌, [], Bool, true, false, refl, ◌∙◌, ap, option_map}
-use Rattle.map_model.specs.Slots.{writing_block}
+use Rattle.volume_layout.specs.declared.block_file.BlockFile.TheVariants.{WritingBlock}
 use Rattle.pool_state.specs.declared.entry.State.TheVariants.{Waiting}
 use Rattle.pool_state.specs.Books.{left_block, left_meta, with_state}
 use Rattle.pool_state.proofs.Reaching.{reaches_removed_at, reaches_remove_at}
@@ -15,7 +15,7 @@ returns-in_err-remove-clause-quiet g c cells stands =
     let found = Rattle.pool_state.specs.Books.found_at c.args.self.now.map in
     let waits = c.requires.state ∙ ap (λ (b : Bool). Waiting b c.args.meta) c.if-not-block.false in
     let listed = lists_block e c.args.meta (found c.args.id) waits in
-    let reaches = reaches_remove_at c.args.id e.vol writing_block valid refl _ (c.as_str.ensures ∙ c.rbw_block.ensures) _ _ c.remove.ensures.worlds in
+    let reaches = reaches_remove_at c.args.id e.vol WritingBlock valid refl _ (c.as_str.ensures ∙ c.rbw_block.ensures) _ _ c.remove.ensures.worlds in
     rests (λ known old. (
       failed_stands old c.args.id valid e c.requires.entry [] (left_block e) _ listed _ _ c.remove.ensures.volumes reaches,
       calls _ (begins _ _) c.remove.ensures.time.nothing_else (failed_images old c.args.id valid e c.requires.entry [] (left_block e) _ listed _ _ c.remove.ensures.volumes reaches),
@@ -28,7 +28,7 @@ returns-clause-quiet g c cells stands =
     let found = Rattle.pool_state.specs.Books.found_at c.args.self.now.map in
     let waits = c.requires.state ∙ ap (λ (b : Bool). Waiting b c.args.meta) c.if-not-block.false in
     let listed = lists_block e c.args.meta (found c.args.id) waits in
-    let reaches = reaches_removed_at c.args.id e.vol writing_block valid refl _ (c.as_str.ensures ∙ c.rbw_block.ensures) _ _ c.in_ok-remove.ensures.ok in
+    let reaches = reaches_removed_at c.args.id e.vol WritingBlock valid refl _ (c.as_str.ensures ∙ c.rbw_block.ensures) _ _ c.in_ok-remove.ensures.ok in
     rests (λ known old. (
       removed_stands old c.args.id valid e c.requires.entry [] (left_block e) _ listed _ _ c.remove.ensures.volumes reaches _ _
           (with_state (Waiting false c.args.meta) e) (found c.args.id)

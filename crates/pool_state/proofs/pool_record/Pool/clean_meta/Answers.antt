@@ -1,6 +1,6 @@
 use Rattle.std.proofs.Common.{◌==◌, if◌then◌else◌, [], Some, Bool, true, false, refl, ◌∙◌, ap, option_map}
 use Rattle.volume_layout.proofs.Reading.{is_stamp-IsStamp}
-use Rattle.map_model.specs.Slots.{writing_meta}
+use Rattle.volume_layout.specs.declared.block_file.BlockFile.TheVariants.{WritingMeta}
 use Rattle.pool_state.specs.declared.entry.State.TheVariants.{Waiting}
 use Rattle.pool_state.specs.Books.{left_block, left_meta, with_state}
 use Rattle.pool_state.proofs.Reaching.{reaches_removed_at, reaches_remove_at}
@@ -16,7 +16,7 @@ returns-in_err-remove-clause-quiet g c cells stands =
     let found = Rattle.pool_state.specs.Books.found_at c.args.self.now.map in
     let has = c.requires.entry ∙ ap (λ (b : Bool). Some (with_state (Waiting false b) c.args.entry.now)) c.if-not-meta.false in
     let listed = lists_meta e (found c.args.id) refl in
-    let reaches = reaches_remove_at c.args.id e.vol (writing_meta e.stamp) valid (is_stamp-IsStamp e.stamp c.get-in_range.ensures.in_range) _ (c.as_str.ensures ∙ c.rbw_meta.ensures) _ _ c.remove.ensures.worlds in
+    let reaches = reaches_remove_at c.args.id e.vol (WritingMeta e.stamp) valid (is_stamp-IsStamp e.stamp c.get-in_range.ensures.in_range) _ (c.as_str.ensures ∙ c.rbw_meta.ensures) _ _ c.remove.ensures.worlds in
     rests (λ known old. (
       failed_stands old c.args.id valid e has [] (left_meta e) _ listed _ _ c.remove.ensures.volumes reaches,
       calls _ (begins _ _) c.remove.ensures.time.nothing_else (failed_images old c.args.id valid e has [] (left_meta e) _ listed _ _ c.remove.ensures.volumes reaches),
@@ -29,7 +29,7 @@ returns-clause-quiet g c cells stands =
     let found = Rattle.pool_state.specs.Books.found_at c.args.self.now.map in
     let has = c.requires.entry ∙ ap (λ (b : Bool). Some (with_state (Waiting false b) c.args.entry.now)) c.if-not-meta.false in
     let listed = lists_meta e (found c.args.id) refl in
-    let reaches = reaches_removed_at c.args.id e.vol (writing_meta e.stamp) valid (is_stamp-IsStamp e.stamp c.get-in_range.ensures.in_range) _ (c.as_str.ensures ∙ c.rbw_meta.ensures) _ _ c.in_ok-remove.ensures.ok in
+    let reaches = reaches_removed_at c.args.id e.vol (WritingMeta e.stamp) valid (is_stamp-IsStamp e.stamp c.get-in_range.ensures.in_range) _ (c.as_str.ensures ∙ c.rbw_meta.ensures) _ _ c.in_ok-remove.ensures.ok in
     rests (λ known old. (
       removed_stands old c.args.id valid e has [] (left_meta e) _ listed _ _ c.remove.ensures.volumes reaches _ _
           (with_state (Waiting false false) e) (found c.args.id)

@@ -3,7 +3,7 @@ use Rattle.pool_state.proofs.Reaching.{reaches_removed_at, reaches_remove_at}
 use Rattle.pool_state.proofs.Showing.{begins, calls, rests}
 use Rattle.pool_state.proofs.QuietRemovals.{failed_stands, failed_images, removed_images, removed_stands, entry_placed, first_dropped, one_fewer}
 use Rattle.std.proofs.lemmas.Option.{slice_get_within}
-use Rattle.pool_state.specs.Books.{own_left, file_is, book_leftover, of_block}
+use Rattle.pool_state.specs.Books.{own_left, book_leftover, of_block}
 use Rattle.pool_state.proofs.QuietRemovals.{one_found, entries_kept, same_entries}
 use Rattle.pool_state.proofs.pool_record.Pool.clean_one.Goals as goal
 
@@ -29,7 +29,7 @@ returns-in_err-remove-clause-quiet g c cells stands =
     let l = c.index-leftover.result.now in
     let valid = c.get-valid.ensures.in_range in
     let one = one_found stands c.args.id valid c.args.self.now.map.found.items c.args.at refl c.requires.first l c.index-leftover.ensures in
-    let reaches = reaches_remove_at c.args.id l.vol (file_is l.file) valid c.path.ensures.valid _ (c.as_str.ensures ∙ c.path.ensures.text) _ _ c.remove.ensures.worlds in
+    let reaches = reaches_remove_at c.args.id l.vol l.file valid c.path.ensures.valid _ (c.as_str.ensures ∙ c.path.ensures.text) _ _ c.remove.ensures.worlds in
     rests (λ known old. (
       failed_stands old c.args.id valid one.entry one.has (own_left (Some one.entry)) (book_leftover l) _ one.listed _ _ c.remove.ensures.volumes reaches,
       calls _ (begins _ _) c.remove.ensures.time.nothing_else
@@ -41,7 +41,7 @@ returns-clause-quiet g c cells stands =
     let l = c.index-leftover.result.now in
     let valid = c.get-valid.ensures.in_range in
     let one = one_found stands c.args.id valid c.args.self.now.map.found.items c.args.at refl c.requires.first l c.index-leftover.ensures in
-    let reaches = reaches_removed_at c.args.id l.vol (file_is l.file) valid c.path.ensures.valid _ (c.as_str.ensures ∙ c.path.ensures.text) _ _ c.in_ok-remove.ensures.ok in
+    let reaches = reaches_removed_at c.args.id l.vol l.file valid c.path.ensures.valid _ (c.as_str.ensures ∙ c.path.ensures.text) _ _ c.in_ok-remove.ensures.ok in
     rests (λ known old. (
       removed_stands old c.args.id valid one.entry one.has (own_left (Some one.entry)) (book_leftover l) _ one.listed _ _ c.remove.ensures.volumes reaches _ _
           one.entry (of_block c.args.id (drop (suc c.args.at) c.args.self.now.map.found.items)) (entries_kept c.args.id _ _ one.entry one.has (same_entries _ _ c.drop_found.ensures.entries))

@@ -1,7 +1,8 @@
 use Rattle.std.proofs.Common.{◌≡◌, ◌≤◌, true, false, inr, refl, sym, ◌∙◌, ap, subst}
 use Rattle.volume_layout.proofs.Reading.{is_stamp-IsStamp}
 use Rattle.map_model.specs.Cells.{absent, waiting}
-use Rattle.map_model.specs.Slots.{View, writing_block, writing_meta, remove_in}
+use Rattle.volume_layout.specs.declared.block_file.BlockFile.TheVariants.{WritingBlock, WritingMeta}
+use Rattle.map_model.specs.Slots.{View, remove_in}
 use Rattle.map_model.specs.Steps.{Step, drop_write, failed, done}
 use Rattle.map_model.specs.Tenures.{Fails, block_failed, meta_failed}
 use Rattle.pool_state.specs.Answers.{unlimited}
@@ -25,8 +26,8 @@ pub returns-in-Err-clause-step : goal.returns-in-Err-clause-step
 returns-in-Err-clause-step g c cells bytes left stands grows =
     let w = c.args.writer in
     let belongs = c.requires.belongs in
-    let step : View → View → Type 0 = λ before after. Fails before (remove_in before w.vol writing_block) after in
-    let reaches = reaches_remove_at w.id w.vol writing_block belongs.valid.0 refl _ (c.as_str.ensures ∙ c.rbw_block.ensures) _ _ c.in-Err.ensures.worlds in
+    let step : View → View → Type 0 = λ before after. Fails before (remove_in before w.vol WritingBlock) after in
+    let reaches = reaches_remove_at w.id w.vol WritingBlock belongs.valid.0 refl _ (c.as_str.ensures ∙ c.rbw_block.ensures) _ _ c.in-Err.ensures.worlds in
     takes waiting (subst (λ cell. Step unlimited cell drop_write failed waiting) (sym grows) (drop_step w.stamp left bytes failed waiting refl))
     (λ e. refl, λ e. absurd cc)
     (λ known old. (
@@ -41,45 +42,46 @@ pub returns-in-Err-remove-clause-step : goal.returns-in-Err-remove-clause-step
 returns-in-Err-remove-clause-step g c cells bytes left stands grows =
     let w = c.args.writer in
     let belongs = c.requires.belongs in
-    let one : View → View → Type 0 = λ before after. after ≡ remove_in before w.vol writing_block in
-    let step : View → View → Type 0 = Then one (λ before after. Fails before (remove_in before w.vol (writing_meta w.stamp)) after) in
-    let first = reaches_removed_at w.id w.vol writing_block belongs.valid.0 refl _ (c.as_str.ensures ∙ c.rbw_block.ensures) _ _ c.in-Ok.ensures.ok in
+    let one : View → View → Type 0 = λ before after. after ≡ remove_in before w.vol WritingBlock in
+    let step : View → View → Type 0 = Then one (λ before after. Fails before (remove_in before w.vol (WritingMeta w.stamp)) after) in
+    let first = reaches_removed_at w.id w.vol WritingBlock belongs.valid.0 refl _ (c.as_str.ensures ∙ c.rbw_block.ensures) _ _ c.in-Ok.ensures.ok in
     let reaches = reaches_then w.id _ _ _ _ _ first
-    (reaches_remove_at w.id w.vol (writing_meta w.stamp) belongs.valid.0 (is_stamp-IsStamp w.stamp belongs.valid.1) _ (c.as_str-2.ensures ∙ c.rbw_meta.ensures) _ _ c.in-Err-remove.ensures.worlds) in
+    (reaches_remove_at w.id w.vol (WritingMeta w.stamp) belongs.valid.0 (is_stamp-IsStamp w.stamp belongs.valid.1) _ (c.as_str-2.ensures ∙ c.rbw_meta.ensures) _ _ c.in-Err-remove.ensures.worlds) in
     takes waiting (subst (λ cell. Step unlimited cell drop_write failed waiting) (sym grows) (drop_step w.stamp left bytes failed waiting refl))
     (λ e. refl, λ e. absurd cc)
     (λ known old. (
       given_up_stands old w.id w.stamp left bytes belongs.valid.0 grows _ belongs.block_number belongs.meta_number refl belongs.entry step false true
-          (λ before after stepped. meta_failed after (subst (λ v. Fails v (remove_in v w.vol (writing_meta w.stamp)) after) stepped.1 stepped.2))
+          (λ before after stepped. meta_failed after (subst (λ v. Fails v (remove_in v w.vol (WritingMeta w.stamp)) after) stepped.1 stepped.2))
           _ _ _ _ (c.in-Err-remove.ensures.volumes ∙ c.in-Ok.ensures.volumes) (same_found _ _ c.set_state-in-Err-remove.ensures.found) reaches c.set_state-in-Err-remove.ensures.changed,
       calls _ (calls _ (begins _ _) c.in-Ok.ensures.time.nothing_else (shown old w.id belongs.valid.0 one _ first waiting
           (dropping_passes old w.id w.stamp left bytes belongs.valid.0 grows _ belongs.block_number belongs.meta_number refl belongs.entry one true true
           (λ before after stepped. block_failed after (inr stepped)) waiting)))
           c.in-Err-remove.ensures.time.nothing_else (shown old w.id belongs.valid.0 step _ reaches waiting
           (dropping_passes old w.id w.stamp left bytes belongs.valid.0 grows _ belongs.block_number belongs.meta_number refl belongs.entry step false true
-          (λ before after stepped. meta_failed after (subst (λ v. Fails v (remove_in v w.vol (writing_meta w.stamp)) after) stepped.1 stepped.2)) waiting)),
+          (λ before after stepped. meta_failed after (subst (λ v. Fails v (remove_in v w.vol (WritingMeta w.stamp)) after) stepped.1 stepped.2)) waiting)),
     )) stands
 
 pub returns-clause-step : goal.returns-clause-step
 returns-clause-step g c cells bytes left stands grows =
     let w = c.args.writer in
     let belongs = c.requires.belongs in
-    let one : View → View → Type 0 = λ before after. after ≡ remove_in before w.vol writing_block in
-    let step : View → View → Type 0 = Then one (λ before after. after ≡ remove_in before w.vol (writing_meta w.stamp)) in
-    let first = reaches_removed_at w.id w.vol writing_block belongs.valid.0 refl _ (c.as_str.ensures ∙ c.rbw_block.ensures) _ _ c.in-Ok.ensures.ok in
+    let one : View → View → Type 0 = λ before after. after ≡ remove_in before w.vol WritingBlock in
+    let step : View → View → Type 0 = Then one (λ before after. after ≡ remove_in before w.vol (WritingMeta w.stamp)) in
+    let first = reaches_removed_at w.id w.vol WritingBlock belongs.valid.0 refl _ (c.as_str.ensures ∙ c.rbw_block.ensures) _ _ c.in-Ok.ensures.ok in
     let reaches = reaches_then w.id _ _ _ _ _ first
-    (reaches_removed_at w.id w.vol (writing_meta w.stamp) belongs.valid.0 (is_stamp-IsStamp w.stamp belongs.valid.1) _ (c.as_str-2.ensures ∙ c.rbw_meta.ensures) _ _ c.in-Ok-remove.ensures.ok) in
+    (reaches_removed_at w.id w.vol (WritingMeta w.stamp) belongs.valid.0 (is_stamp-IsStamp w.stamp belongs.valid.1) _ (c.as_str-2.ensures ∙ c.rbw_meta.ensures) _ _ c.in-Ok-remove.ensures.ok) in
     takes absent (subst (λ cell. Step unlimited cell drop_write done absent) (sym grows) (drop_step w.stamp left bytes done absent (refl, refl)))
     (λ e. absurd cc, λ e. refl)
     (λ known old. (
       dropped_stands old w.id w.stamp left bytes belongs.valid.0 grows _ belongs.block_number belongs.meta_number refl belongs.entry step
-          (λ before after stepped. stepped.2 ∙ ap (λ v. remove_in v w.vol (writing_meta w.stamp)) stepped.1)
+          (λ before after stepped. stepped.2 ∙ ap (λ v. remove_in v w.vol (WritingMeta w.stamp)) stepped.1)
           _ _ _ _ (c.in-Ok-remove.ensures.volumes ∙ c.in-Ok.ensures.volumes) (same_found _ _ c.remove-3.ensures.found) reaches c.remove-3.ensures.removed,
       calls _ (calls _ (begins _ _) c.in-Ok.ensures.time.nothing_else (shown old w.id belongs.valid.0 one _ first absent
           (dropping_passes old w.id w.stamp left bytes belongs.valid.0 grows _ belongs.block_number belongs.meta_number refl belongs.entry one true true
           (λ before after stepped. block_failed after (inr stepped)) absent)))
           c.in-Ok-remove.ensures.time.nothing_else (shown old w.id belongs.valid.0 step _ reaches absent
           (absent_passes old w.id w.stamp left bytes belongs.valid.0 grows _ belongs.block_number belongs.meta_number refl belongs.entry step
-          (λ before after stepped. stepped.2 ∙ ap (λ v. remove_in v w.vol (writing_meta w.stamp)) stepped.1))),
+          (λ before after stepped. stepped.2 ∙ ap (λ v. remove_in v w.vol (WritingMeta w.stamp)) stepped.1))),
     )) stands
+
 -- timed imp

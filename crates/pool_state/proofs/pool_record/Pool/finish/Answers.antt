@@ -3,7 +3,8 @@ use Rattle.volume_layout.proofs.Reading.{is_stamp-IsStamp}
 use Rattle.map_model.specs.Cells.{Replica, final, unsure}
 use Rattle.map_model.specs.Steps.{Step, finish, failed, done}
 use Rattle.pool_state.specs.Answers.{unlimited}
-use Rattle.map_model.specs.Slots.{View, block, meta, writing_block, writing_meta, publish_in}
+use Rattle.volume_layout.specs.declared.block_file.BlockFile.TheVariants.{Block, Meta, WritingBlock, WritingMeta}
+use Rattle.map_model.specs.Slots.{View, publish_in}
 use Rattle.map_model.specs.Tenures.{Fails, meta_failed, block_failed}
 use Rattle.pool_state.specs.Reaching.{Then}
 use Rattle.pool_state.proofs.Reaching.{reaches_then}
@@ -21,8 +22,8 @@ pub returns-in-Err-clause-step : goal.returns-in-Err-clause-step
 returns-in-Err-clause-step g c cells bytes left belongs stands grows =
     let p = c.args.pair in
     let new : Replica = record { stamp = p.stamp; bytes = bytes } in
-    let step : View → View → Type 0 = λ before after. Fails before (publish_in before p.vol (writing_meta p.stamp) (meta p.stamp) (meta_of belongs)) after in
-    let reaches = reaches_publish_at p.id p.vol (writing_meta p.stamp) (meta p.stamp) belongs.meta_number (meta_of belongs) _ belongs.valid.0
+    let step : View → View → Type 0 = λ before after. Fails before (publish_in before p.vol (WritingMeta p.stamp) (Meta p.stamp) (meta_of belongs)) after in
+    let reaches = reaches_publish_at p.id p.vol (WritingMeta p.stamp) (Meta p.stamp) belongs.meta_number (meta_of belongs) _ belongs.valid.0
     (is_stamp-IsStamp p.stamp belongs.valid.1) (is_stamp-IsStamp p.stamp belongs.valid.1) _ _ belongs.meta (c.as_str.ensures ∙ c.meta_path.ensures) _ _
     (λ told. same_told _ _ (belongs.sealed.meta_bytes told)) c.in-Err.ensures.worlds in
     takes_learning (learned p.id p.stamp (meta_of belongs)) refl (unsure None (Some new) false)
@@ -41,7 +42,7 @@ publish-requires-2 g c =
     let belongs = c.requires.belongs.1 in
     record {
       stands = block_stands c.requires.stands.1 _ _ belongs _
-          (reaches_published_at p.id p.vol (writing_meta p.stamp) (meta p.stamp) belongs.meta_number (meta_of belongs) _ belongs.valid.0
+          (reaches_published_at p.id p.vol (WritingMeta p.stamp) (Meta p.stamp) belongs.meta_number (meta_of belongs) _ belongs.valid.0
           (is_stamp-IsStamp p.stamp belongs.valid.1) (is_stamp-IsStamp p.stamp belongs.valid.1) _ _ belongs.meta (c.as_str.ensures ∙ c.meta_path.ensures) _ _
           (λ told. same_told _ _ (belongs.sealed.meta_bytes told)) c.in-Ok.ensures.ok);
     }
@@ -50,13 +51,13 @@ pub returns-in-Err-publish-clause-step : goal.returns-in-Err-publish-clause-step
 returns-in-Err-publish-clause-step g c cells bytes left belongs stands grows =
     let p = c.args.pair in
     let new : Replica = record { stamp = p.stamp; bytes = bytes } in
-    let one : View → View → Type 0 = λ before after. after ≡ publish_in before p.vol (writing_meta p.stamp) (meta p.stamp) (meta_of belongs) in
-    let step : View → View → Type 0 = Then one (λ before after. Fails before (publish_in before p.vol writing_block block bytes) after) in
-    let first = reaches_published_at p.id p.vol (writing_meta p.stamp) (meta p.stamp) belongs.meta_number (meta_of belongs) _ belongs.valid.0
+    let one : View → View → Type 0 = λ before after. after ≡ publish_in before p.vol (WritingMeta p.stamp) (Meta p.stamp) (meta_of belongs) in
+    let step : View → View → Type 0 = Then one (λ before after. Fails before (publish_in before p.vol WritingBlock Block bytes) after) in
+    let first = reaches_published_at p.id p.vol (WritingMeta p.stamp) (Meta p.stamp) belongs.meta_number (meta_of belongs) _ belongs.valid.0
     (is_stamp-IsStamp p.stamp belongs.valid.1) (is_stamp-IsStamp p.stamp belongs.valid.1) _ _ belongs.meta (c.as_str.ensures ∙ c.meta_path.ensures) _ _
     (λ told. same_told _ _ (belongs.sealed.meta_bytes told)) c.in-Ok.ensures.ok in
     let reaches = reaches_then p.id _ _ _ _ _ first
-    (reaches_publish_at p.id p.vol writing_block block belongs.block_number bytes _ belongs.valid.0
+    (reaches_publish_at p.id p.vol WritingBlock Block belongs.block_number bytes _ belongs.valid.0
     refl refl _ _ belongs.block (c.as_str-2.ensures ∙ c.block_path.ensures) _ _
     (λ told. same_told _ _ (belongs.sealed.block_bytes (c.in-Ok.ensures.worlds.honest.1 told))) c.in-Err-publish.ensures.worlds) in
     takes_learning (learned p.id p.stamp (meta_of belongs)) refl (unsure None (Some new) false)
@@ -64,27 +65,27 @@ returns-in-Err-publish-clause-step g c cells bytes left belongs stands grows =
     (λ e. refl, λ e. absurd cc)
     (λ known was. let old = learns was p.id p.stamp left bytes (meta_of belongs) grows in (
       finish_doubts old _ bytes belongs left grows (meta_fits known belongs) step
-          (λ before after stepped. block_failed after (subst (λ v. Fails v (publish_in v p.vol writing_block block bytes) after) stepped.1 stepped.2))
+          (λ before after stepped. block_failed after (subst (λ v. Fails v (publish_in v p.vol WritingBlock Block bytes) after) stepped.1 stepped.2))
           _ _ _ _ (c.in-Err-publish.ensures.volumes ∙ c.in-Ok.ensures.volumes) (same_found _ _ c.set_state-in-Err-publish.ensures.found)
           reaches c.set_state-in-Err-publish.ensures.changed,
       calls _ (calls _ (begins _ _) c.in-Ok.ensures.time.nothing_else (shown old p.id belongs.valid.0 one _ first (unsure None (Some new) false)
           (doubt_passes old _ bytes belongs left grows (meta_fits known belongs) one (λ before after stepped. meta_failed after (inr stepped)))))
           c.in-Err-publish.ensures.time.nothing_else (shown old p.id belongs.valid.0 step _ reaches (unsure None (Some new) false)
           (doubt_passes old _ bytes belongs left grows (meta_fits known belongs) step
-          (λ before after stepped. block_failed after (subst (λ v. Fails v (publish_in v p.vol writing_block block bytes) after) stepped.1 stepped.2)))),
+          (λ before after stepped. block_failed after (subst (λ v. Fails v (publish_in v p.vol WritingBlock Block bytes) after) stepped.1 stepped.2)))),
     )) stands
 
 pub returns-clause-step : goal.returns-clause-step
 returns-clause-step g c cells bytes left belongs stands grows =
     let p = c.args.pair in
     let new : Replica = record { stamp = p.stamp; bytes = bytes } in
-    let one : View → View → Type 0 = λ before after. after ≡ publish_in before p.vol (writing_meta p.stamp) (meta p.stamp) (meta_of belongs) in
-    let step : View → View → Type 0 = Then one (λ before after. after ≡ publish_in before p.vol writing_block block bytes) in
-    let first = reaches_published_at p.id p.vol (writing_meta p.stamp) (meta p.stamp) belongs.meta_number (meta_of belongs) _ belongs.valid.0
+    let one : View → View → Type 0 = λ before after. after ≡ publish_in before p.vol (WritingMeta p.stamp) (Meta p.stamp) (meta_of belongs) in
+    let step : View → View → Type 0 = Then one (λ before after. after ≡ publish_in before p.vol WritingBlock Block bytes) in
+    let first = reaches_published_at p.id p.vol (WritingMeta p.stamp) (Meta p.stamp) belongs.meta_number (meta_of belongs) _ belongs.valid.0
     (is_stamp-IsStamp p.stamp belongs.valid.1) (is_stamp-IsStamp p.stamp belongs.valid.1) _ _ belongs.meta (c.as_str.ensures ∙ c.meta_path.ensures) _ _
     (λ told. same_told _ _ (belongs.sealed.meta_bytes told)) c.in-Ok.ensures.ok in
     let reaches = reaches_then p.id _ _ _ _ _ first
-    (reaches_published_at p.id p.vol writing_block block belongs.block_number bytes _ belongs.valid.0
+    (reaches_published_at p.id p.vol WritingBlock Block belongs.block_number bytes _ belongs.valid.0
     refl refl _ _ belongs.block (c.as_str-2.ensures ∙ c.block_path.ensures) _ _
     (λ told. same_told _ _ (belongs.sealed.block_bytes (c.in-Ok.ensures.worlds.honest.1 told))) c.in-Ok-publish.ensures.ok) in
     takes_learning (learned p.id p.stamp (meta_of belongs)) refl (final new)
@@ -92,13 +93,14 @@ returns-clause-step g c cells bytes left belongs stands grows =
     (λ e. absurd cc, λ e. refl)
     (λ known was. let old = learns was p.id p.stamp left bytes (meta_of belongs) grows in (
       finish_ends old _ bytes belongs left grows (meta_fits known belongs) step
-          (λ before after stepped. stepped.2 ∙ ap (λ v. publish_in v p.vol writing_block block bytes) stepped.1)
+          (λ before after stepped. stepped.2 ∙ ap (λ v. publish_in v p.vol WritingBlock Block bytes) stepped.1)
           _ _ _ _ (c.in-Ok-publish.ensures.volumes ∙ c.in-Ok.ensures.volumes) (same_found _ _ c.change.ensures.found)
           reaches c.change.ensures.changed,
       calls _ (calls _ (begins _ _) c.in-Ok.ensures.time.nothing_else (shown old p.id belongs.valid.0 one _ first (final new)
           (new_passes old _ bytes belongs left grows (meta_fits known belongs) one (λ before after stepped. meta_failed after (inr stepped)))))
           c.in-Ok-publish.ensures.time.nothing_else (shown old p.id belongs.valid.0 step _ reaches (final new)
           (final_passes old _ bytes belongs left grows (meta_fits known belongs) step
-          (λ before after stepped. stepped.2 ∙ ap (λ v. publish_in v p.vol writing_block block bytes) stepped.1))),
+          (λ before after stepped. stepped.2 ∙ ap (λ v. publish_in v p.vol WritingBlock Block bytes) stepped.1))),
     )) stands
+
 -- timed imp

@@ -1,11 +1,11 @@
 use Rattle.std.proofs.Common.{refl, sym, ◌∙◌}
 use Rattle.pool_state.proofs.Showing.{begins, calls, rests}
 use Rattle.pool_state.proofs.Lending.{stands_looked, looked_images, lend_free, lends, looked_for_two}
-use Rattle.map_model.specs.Slots.{block, meta}
+use Rattle.volume_layout.specs.declared.block_file.BlockFile.TheVariants.{Block, Meta}
 use Rattle.pool_state.proofs.pool_record.Pool.start_read.Goals as goal
 
 pub lend_file-requires-clause-settled : goal.lend_file-requires-clause-settled
-lend_file-requires-clause-settled g c = lend_free c.requires.stands.1 c.args.id c.in-Some.entry.vol block refl
+lend_file-requires-clause-settled g c = lend_free c.requires.stands.1 c.args.id c.in-Some.entry.vol Block refl
 
 pub returns-in_err-block-clause-quiet : goal.returns-in_err-block-clause-quiet
 returns-in_err-block-clause-quiet g c cells stands = rests (λ known old.
@@ -15,7 +15,7 @@ returns-in_err-block-clause-quiet g c cells stands = rests (λ known old.
 pub lend_file-requires-2-clause-settled : goal.lend_file-requires-2-clause-settled
 lend_file-requires-2-clause-settled g c =
     lend_free (stands_looked _ _ _ _ _ _ _ _ c.requires.stands.1 c.in_ok-block.ensures.looked c.in_ok-block.ensures.goes_on.volume_count)
-    c.args.id c.in-Some.entry.vol (meta c.in-Some.entry.stamp) refl
+    c.args.id c.in-Some.entry.vol (Meta c.in-Some.entry.stamp) refl
 
 pub returns-in_err-meta-clause-quiet : goal.returns-in_err-meta-clause-quiet
 returns-in_err-meta-clause-quiet g c cells stands = rests (λ known old.

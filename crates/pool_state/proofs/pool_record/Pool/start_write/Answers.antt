@@ -3,7 +3,8 @@ use Rattle.disk_model.specs.Worlds.{DraftPlace}
 use Rattle.disk_model.specs.Told.{NoDraftAt}
 use Rattle.volume_layout.proofs.Reading.{is_stamp-IsStamp}
 use Rattle.map_model.specs.Cells.{Cell, absent, waiting, growing}
-use Rattle.map_model.specs.Slots.{View, writing_block, writing_meta, create_in}
+use Rattle.volume_layout.specs.declared.block_file.BlockFile.TheVariants.{WritingBlock, WritingMeta}
+use Rattle.map_model.specs.Slots.{View, create_in}
 use Rattle.map_model.specs.Steps.{failed, memory, done}
 use Rattle.map_model.specs.Tenures.{Fails, block_failed, meta_failed, meta_memory, StartsWrite}
 use Rattle.pool_state.specs.declared.entry.State.TheVariants.{Writing, Waiting}
@@ -46,15 +47,15 @@ returns-in-Err-clause-step g c cells stands =
 pub create-requires-clause-free : goal.create-requires-clause-free
 create-requires-clause-free g c =
     subst (NoDraftAt (g.D.PoolDisks.worlds c.args.self.now.disks) 1) (sym (c.as_str.ensures ∙ c.rbw_block.ensures))
-    (start_free c.requires.stands.1 c.args.id c.find.ensures.valid (sym c.find.ensures.entry ∙ c.in_default.is) 1 writing_block refl)
+    (start_free c.requires.stands.1 c.args.id c.find.ensures.valid (sym c.find.ensures.entry ∙ c.in_default.is) 1 WritingBlock refl)
 
 pub returns-in-Err-Failed-clause-step : goal.returns-in-Err-Failed-clause-step
 returns-in-Err-Failed-clause-step g c cells stands =
     let id = c.args.id in
     let none = sym c.find.ensures.entry ∙ c.in_default.is in
     let number = g.D.PoolDisks.next_number c.args.self.now.disks in
-    let step : View → View → Type 0 = λ before after. Fails before (create_in before 1 writing_block number) after in
-    let reaches = reaches_create_at id 1 writing_block number c.find.ensures.valid refl refl _ (c.as_str.ensures ∙ c.rbw_block.ensures) _ _ c.in-Err-Failed.ensures.worlds in
+    let step : View → View → Type 0 = λ before after. Fails before (create_in before 1 WritingBlock number) after in
+    let reaches = reaches_create_at id 1 WritingBlock number c.find.ensures.valid refl refl _ (c.as_str.ensures ∙ c.rbw_block.ensures) _ _ c.in-Err-Failed.ensures.worlds in
     takes waiting (step_of stands id c.find.ensures.valid none c.args.stamp c.args.need failed waiting (omega arith) (inr refl))
     (λ e. refl, λ e w. absurd cc, λ e. inr refl, λ e. absurd cc)
     (λ known old. (
@@ -86,7 +87,7 @@ create-requires-2-clause-free g c =
     subst (NoDraftAt (g.D.PoolDisks.worlds c.create.new.self) 1) (sym (c.as_str-2.ensures ∙ c.rbw_meta.ensures))
     (start_free_meta c.requires.stands.1 c.args.id c.find.ensures.valid (sym c.find.ensures.entry ∙ c.in_default.is) _ 1 number c.args.stamp c.get-in_range.ensures.in_range
     (is_stamp-IsStamp c.args.stamp c.get-in_range.ensures.in_range)
-    (reaches_created_at c.args.id 1 writing_block number c.find.ensures.valid refl refl _ (c.as_str.ensures ∙ c.rbw_block.ensures) _ _ c.in-Ok-create.ensures.ok))
+    (reaches_created_at c.args.id 1 WritingBlock number c.find.ensures.valid refl refl _ (c.as_str.ensures ∙ c.rbw_block.ensures) _ _ c.in-Ok-create.ensures.ok))
 
 pub returns-in-Err-Failed-create-clause-step : goal.returns-in-Err-Failed-create-clause-step
 returns-in-Err-Failed-create-clause-step g c cells stands =
@@ -94,24 +95,24 @@ returns-in-Err-Failed-create-clause-step g c cells stands =
     let none = sym c.find.ensures.entry ∙ c.in_default.is in
     let b = g.D.PoolDisks.next_number c.args.self.now.disks in
     let m = g.D.PoolDisks.next_number c.create.new.self in
-    let one : View → View → Type 0 = λ before after. after ≡ create_in before 1 writing_block b in
-    let step : View → View → Type 0 = Then one (λ before after. Fails before (create_in before 1 (writing_meta c.args.stamp) m) after) in
-    let first = reaches_created_at id 1 writing_block b c.find.ensures.valid refl refl _ (c.as_str.ensures ∙ c.rbw_block.ensures) _ _ c.in-Ok-create.ensures.ok in
+    let one : View → View → Type 0 = λ before after. after ≡ create_in before 1 WritingBlock b in
+    let step : View → View → Type 0 = Then one (λ before after. Fails before (create_in before 1 (WritingMeta c.args.stamp) m) after) in
+    let first = reaches_created_at id 1 WritingBlock b c.find.ensures.valid refl refl _ (c.as_str.ensures ∙ c.rbw_block.ensures) _ _ c.in-Ok-create.ensures.ok in
     let reaches = reaches_then id _ _ _ _ _ first
-    (reaches_create_at id 1 (writing_meta c.args.stamp) m c.find.ensures.valid (is_stamp-IsStamp c.args.stamp c.get-in_range.ensures.in_range) refl _ (c.as_str-2.ensures ∙ c.rbw_meta.ensures) _ _ c.in-Err-Failed-create.ensures.worlds) in
+    (reaches_create_at id 1 (WritingMeta c.args.stamp) m c.find.ensures.valid (is_stamp-IsStamp c.args.stamp c.get-in_range.ensures.in_range) refl _ (c.as_str-2.ensures ∙ c.rbw_meta.ensures) _ _ c.in-Err-Failed-create.ensures.worlds) in
     takes waiting (step_of stands id c.find.ensures.valid none c.args.stamp c.args.need failed waiting (omega arith) (inr refl))
     (λ e. refl, λ e w. absurd cc, λ e. inr refl, λ e. absurd cc)
     (λ known old. (
       start_waits old id c.find.ensures.valid none c.args.stamp c.args.need 1 c.get-in_range.ensures.in_range (omega arith) old.some_volume
           _ _ _ _ (c.in-Err-Failed-create.ensures.volumes ∙ c.in-Ok-create.ensures.volumes) (same_found _ _ (c.set_state.ensures.found ∙ c.in-Ok-insert.ensures.found)) step true true b m reaches
           (restated id _ _ _ _ (Waiting true true) c.in-Ok-insert.ensures.added c.set_state.ensures.changed)
-          (λ before after stepped. meta_failed after (subst (λ v. Fails v (create_in v 1 (writing_meta c.args.stamp) m) after) stepped.1 stepped.2)),
+          (λ before after stepped. meta_failed after (subst (λ v. Fails v (create_in v 1 (WritingMeta c.args.stamp) m) after) stepped.1 stepped.2)),
       calls _ (calls _ (begins _ _) c.in-Ok-create.ensures.time.nothing_else (shown old id c.find.ensures.valid one _ first waiting
           (waits_passes old id c.find.ensures.valid none c.args.stamp c.args.need 1 c.get-in_range.ensures.in_range (omega arith) old.some_volume one true false b 0 waiting
           (λ before after stepped. block_failed after (inr stepped)))))
           c.in-Err-Failed-create.ensures.time.nothing_else (shown old id c.find.ensures.valid step _ reaches waiting
           (waits_passes old id c.find.ensures.valid none c.args.stamp c.args.need 1 c.get-in_range.ensures.in_range (omega arith) old.some_volume step true true b m waiting
-          (λ before after stepped. meta_failed after (subst (λ v. Fails v (create_in v 1 (writing_meta c.args.stamp) m) after) stepped.1 stepped.2)))),
+          (λ before after stepped. meta_failed after (subst (λ v. Fails v (create_in v 1 (WritingMeta c.args.stamp) m) after) stepped.1 stepped.2)))),
     )) stands
 
 pub returns-in-Err-Memory-create-clause-step : goal.returns-in-Err-Memory-create-clause-step
@@ -120,9 +121,9 @@ returns-in-Err-Memory-create-clause-step g c cells stands =
     let none = sym c.find.ensures.entry ∙ c.in_default.is in
     let b = g.D.PoolDisks.next_number c.args.self.now.disks in
     let same = c.in-Err-Memory-create.ensures.memory (ap Err c.in-Err-Memory-create.field-0-is) in
-    let one : View → View → Type 0 = λ before after. after ≡ create_in before 1 writing_block b in
+    let one : View → View → Type 0 = λ before after. after ≡ create_in before 1 WritingBlock b in
     let step : View → View → Type 0 = Then one Stays in
-    let first = reaches_created_at id 1 writing_block b c.find.ensures.valid refl refl _ (c.as_str.ensures ∙ c.rbw_block.ensures) _ _ c.in-Ok-create.ensures.ok in
+    let first = reaches_created_at id 1 WritingBlock b c.find.ensures.valid refl refl _ (c.as_str.ensures ∙ c.rbw_block.ensures) _ _ c.in-Ok-create.ensures.ok in
     let reaches = reaches_then id _ _ _ _ _ first (reaches_same id _ _ same.0) in
     let starts : (before after : View) → step before after → StartsWrite before None (starter c.args.stamp c.args.need 1 b 0) after
     (block_books (Some (entry_in id c.args.stamp c.args.need 1 (Waiting true false))) []) waiting =
@@ -150,10 +151,10 @@ returns-clause-step g c cells stands =
     let old_entries = Rattle.pool_state.specs.Books.entry_at c.args.self.now.map in
     let is_b : c.number.result ≡ b = c.number.ensures ∙ ap (λ (d : DraftPlace). d.number) c.in-Ok-create.ensures.place in
     let is_m : c.number-2.result ≡ m = c.number-2.ensures ∙ ap (λ (d : DraftPlace). d.number) c.in-Ok-create-2.ensures.place in
-    let one : View → View → Type 0 = λ before after. after ≡ create_in before 1 writing_block b in
-    let first = reaches_created_at id 1 writing_block b c.find.ensures.valid refl refl _ (c.as_str.ensures ∙ c.rbw_block.ensures) _ _ c.in-Ok-create.ensures.ok in
+    let one : View → View → Type 0 = λ before after. after ≡ create_in before 1 WritingBlock b in
+    let first = reaches_created_at id 1 WritingBlock b c.find.ensures.valid refl refl _ (c.as_str.ensures ∙ c.rbw_block.ensures) _ _ c.in-Ok-create.ensures.ok in
     let reaches = reaches_then id _ _ _ _ _ first
-    (reaches_created_at id 1 (writing_meta c.args.stamp) m c.find.ensures.valid (is_stamp-IsStamp c.args.stamp c.get-in_range.ensures.in_range) refl _ (c.as_str-2.ensures ∙ c.rbw_meta.ensures) _ _ c.in-Ok-create-2.ensures.ok) in
+    (reaches_created_at id 1 (WritingMeta c.args.stamp) m c.find.ensures.valid (is_stamp-IsStamp c.args.stamp c.get-in_range.ensures.in_range) refl _ (c.as_str-2.ensures ∙ c.rbw_meta.ensures) _ _ c.in-Ok-create-2.ensures.ok) in
     let same_volumes = c.in-Ok-create-2.ensures.volumes ∙ c.in-Ok-create.ensures.volumes in
     let listed = same_found _ _ (c.change.ensures.found ∙ c.in-Ok-insert.ensures.found) in
     takes (growing c.args.stamp None [] c.args.need) (step_of stands id c.find.ensures.valid none c.args.stamp c.args.need done (growing c.args.stamp None [] c.args.need) (omega arith) (refl, refl))
@@ -171,4 +172,5 @@ returns-clause-step g c cells stands =
           (grows_passes old id c.find.ensures.valid none c.args.stamp c.args.need 1 c.get-in_range.ensures.in_range (omega arith) old.some_volume
           (g.D.PoolDisks.worlds c.create-2.new.self) (g.D.PoolDisks.volume_count c.create-2.new.self) (Rattle.pool_state.specs.Books.entry_at c.change.new.self) (Rattle.pool_state.specs.Books.found_at c.change.new.self) same_volumes listed b m)),
     )) stands
+
 -- timed imp
