@@ -4,11 +4,12 @@ use Rattle.line_io.specs.Lines.{terminated_lines, TakesLine, FirstPassesLimit, O
 use Rattle.line_io.specs.declared.lines.ReadFault.{ReadFault}
 use Rattle.line_io.specs.declared.lines.ReadFault.TheVariants.{Source, Limit as LineLimit, Memory}
 use Rattle.disk_model.specs.Causes.{Rose}
-use Rattle.plan_tool.specs.declared.ending.Ending.{Ending}
-use Rattle.plan_tool.specs.declared.ending.Ending.TheVariants.{Complete, Usage, SourceFault, SinkFault, NoMemory, Outside, Limit}
+use Rattle.run_end.specs.declared.ending.Ending.{Ending}
+use Rattle.run_end.specs.declared.ending.Ending.TheVariants.{SourceFault, NoMemory, Outside}
+use Rattle.run_end.specs.Ending.{ending_at}
 use Rattle.plan_tool.specs.declared.row.Row.{Row}
 use Rattle.plan_tool.specs.Rows.{AreRows, Input, AtEnd, AtOutside, AtLimit, input_of, input_from, input_by}
-use Rattle.plan_tool.specs.Session.{AddsLine, LineStops, StopsWith, IsOfReading, ending_at}
+use Rattle.plan_tool.specs.Session.{AddsLine, LineStops, StopsWith, IsOfRows}
 
 -- two facts of what is unread, one after another
 unread_chain : (P Q R : List ℕ → List ℕ → Type 0) (pending pending' : List ℕ) (input left left' : Option (List ℕ)) → OfUnread P [] input pending left
@@ -103,11 +104,6 @@ module _ (input left : Option (List ℕ)) (pending : List ℕ) (number count : �
 
     -- one that isn't of the form
     pub read_outside : (ending : Ending) → LineStops rows (number + 1) shown ending → IfSome input (λ bytes. StopsWith (input_of bytes).stop ending)
-    read_outside Complete stops = absurd stops
-    read_outside Usage stops = absurd stops
-    read_outside SourceFault stops = absurd stops
-    read_outside SinkFault stops = absurd stops
-    read_outside (Limit line) stops = absurd stops
     read_outside NoMemory stops = always input
       where
         always : (i : Option (List ℕ)) → IfSome i (λ bytes. Unit {0})
@@ -119,21 +115,18 @@ module _ (input left : Option (List ℕ)) (pending : List ℕ) (number count : �
         (λ u m r e k. ap (λ (i : Input). i.stop) (e ∙ input_by_line number count count' rows m text r k
         ∙ ap (λ (p : List ℕ). input_by (number + 1) rows p (λ more. input_from (number + 1) count' more (terminated_lines r))) (sym same)
         ∙ stops (λ more. input_from (number + 1) count' more (terminated_lines r))))
+    read_outside ending stops = absurd stops
 
 -- which endings come of a line
-pub fault_of_reading : (fault : ReadFault) (line : ℕ) (ending : Ending) → ending ≡ ending_at fault line → IsOfReading ending
-fault_of_reading Source line ending e = subst IsOfReading (sym e) tt
-fault_of_reading LineLimit line ending e = subst IsOfReading (sym e) tt
-fault_of_reading Memory line ending e = subst IsOfReading (sym e) tt
+pub fault_of_rows : (fault : ReadFault) (line : ℕ) (ending : Ending) → ending ≡ ending_at fault line → IsOfRows ending
+fault_of_rows Source line ending e = subst IsOfRows (sym e) tt
+fault_of_rows LineLimit line ending e = subst IsOfRows (sym e) tt
+fault_of_rows Memory line ending e = subst IsOfRows (sym e) tt
 
-pub line_of_reading : (rows : List Row) (number : ℕ) (text : List ℕ) (ending : Ending) → LineStops rows number text ending → IsOfReading ending
-line_of_reading rows number text Complete h = h
-line_of_reading rows number text Usage h = h
-line_of_reading rows number text SourceFault h = tt
-line_of_reading rows number text SinkFault h = h
-line_of_reading rows number text NoMemory h = tt
-line_of_reading rows number text (Outside line column) h = tt
-line_of_reading rows number text (Limit line) h = tt
+pub line_of_rows : (rows : List Row) (number : ℕ) (text : List ℕ) (ending : Ending) → LineStops rows number text ending → IsOfRows ending
+line_of_rows rows number text NoMemory h = tt
+line_of_rows rows number text (Outside line column) h = tt
+line_of_rows rows number text ending h = absurd h
 
 pub line_not_source : (rows : List Row) (number : ℕ) (text : List ℕ) (ending : Ending) → LineStops rows number text ending → ending ≡ SourceFault → ⊥
 line_not_source rows number text ending h e = subst (LineStops rows number text) e h

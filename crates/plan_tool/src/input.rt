@@ -4,29 +4,18 @@ ghost use Rattle.std.specs.Io.KnownBytes.{IsAtEnd};
 ghost use Rattle.disk_model.specs.Causes.{Rose};
 ghost use Rattle.script_lang.specs.Script.{is_blank};
 ghost use Rattle.plan_tool.specs.Rows.{AreRows, AtEnd, input_of};
-ghost use Rattle.plan_tool.specs.Session.{ending_at, AddsLine, LineStops, StopsWith, IsOfReading};
+ghost use Rattle.plan_tool.specs.Session.{AddsLine, LineStops, StopsWith, IsOfRows};
 
-use crate::ending::Ending;
 use crate::reading::read_row;
 use crate::row::Row;
 use disk_model::Source;
-use line_io::{LineReader, ReadFault};
+use line_io::LineReader;
+use run_end::Ending;
 use script_lang::LineFault;
 use std::alloc::Global;
 
 /// How many bytes are asked of the source at a time.
 const PIECE: usize = 65_536;
-
-/// How an input ends whose line can't be read.
-fn ending_of(fault: ReadFault, line: u64) -> Ending
-    ensures { result ≡ ending_at fault line }
-{
-    match fault {
-        ReadFault::Source => Ending::SourceFault,
-        ReadFault::Limit => Ending::Limit { line },
-        ReadFault::Memory => Ending::NoMemory,
-    }
-}
 
 /// Whether a line is passed over.
 fn is_blank(text: &[u8]) -> bool
@@ -63,7 +52,7 @@ pub fn read_rows<S: Source>(alloc: Global, source: &mut S) -> Result<Vec<Row>, E
     ensures ok { IfOk result (λ rows. IfSome (S.left source.old) (λ bytes. input_of bytes ≡ record { rows = rows.items; stop = AtEnd })) }
     ensures rows { IfOk result (λ rows. AreRows rows.items) }
     ensures err { IfErr result (λ ending. IfSome (S.left source.old) (λ bytes. StopsWith (input_of bytes).stop ending)) }
-    ensures of_reading { IfErr result IsOfReading }
+    ensures of_rows { IfErr result IsOfRows }
     ensures at_end { IsOk result → IsAtEnd (S.left source.new) }
     ensures source { IsErrOf result Ending.SourceFault → Rose (S.faults source.old) (S.faults source.new) }
     ensures later { S.faults source.old ≤ S.faults source.new }
@@ -79,7 +68,7 @@ pub fn read_rows<S: Source>(alloc: Global, source: &mut S) -> Result<Vec<Row>, E
         let line = number + 1;
         let found = match reader.next_line(source, &mut text) {
             Ok(found) => found,
-            Err(fault) => return Err(ending_of(fault, line)),
+            Err(fault) => return Err(Ending::of_read(fault, line)),
         };
         if !found {
             return Ok(rows);

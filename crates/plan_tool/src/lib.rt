@@ -1,9 +1,7 @@
 //! What the planner of the disk balancer is given: the words of its command line, and the rows of its input.
 #![tactic(auto)]
 
-mod closing;
 mod command;
-pub mod ending;
 mod input;
 mod making;
 mod options;

@@ -6,16 +6,16 @@ ghost use Rattle.script_lang.specs.declared.words_fault.WordsFault.TheVariants.{
 ghost use Rattle.plan_tool.specs.declared.options.Options.{Options};
 ghost use Rattle.plan_tool.specs.Options.{AreInRange, options_of};
 ghost use Rattle.plan_tool.specs.Rows.{input_of};
-ghost use Rattle.plan_tool.specs.Session.{status_at, Planned, Runs, Declines};
+ghost use Rattle.run_end.specs.Closing.{Declines};
+ghost use Rattle.plan_tool.specs.Session.{status_at, Planned, Runs};
 
-use crate::closing::close;
 use crate::command::read_options;
-use crate::ending::Ending;
 use crate::input::read_rows;
 use crate::making::plan_lines;
 use crate::options::Options;
 use disk_model::{Sink, Source};
 use line_io::write_all;
+use run_end::{Ending, close};
 use script_lang::node_words::WordsFault;
 use std::alloc::Global;
 

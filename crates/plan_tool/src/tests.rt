@@ -1,7 +1,7 @@
 //! Words of command lines, and inputs in memory.
 use super::*;
-use crate::ending::Ending;
 use mem_disks::{MemSink, MemSource};
+use run_end::Ending;
 use script_lang::node_words::WordsFault;
 use std::alloc::{AllocError, Global};
 use std::test::Fail;
