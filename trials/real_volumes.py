@@ -3,13 +3,13 @@
 
     python3 trials/real_volumes.py [PROGRAM]
 
-It wants the program that `rt run` in `crates/dnplay` builds. A volume that another process has locked, or whose lock can't
-be taken, is left as it is, file by file. Links, FIFOs, sockets, devices, directories and files with further names, at each
-name where the program makes or reads one, are neither followed nor opened nor written: what stands outside of the volume
-stays as it was, and no line waits for another process. On a file system that is full, what was answered before is there.
-Each run is compared with the replies and the status that it must have; it ends with a line of what was run, or with the
-first difference. Devices are made by root alone, and a small file system is mounted by root alone: without, both are left
-out, and the last line says so.
+It wants the program that `rt run` in `crates/dnplay` builds. A volume that another process has locked, or whose lock
+can't be taken, is left as it is, file by file. Links, FIFOs, sockets, devices, directories and files with further
+names, at each name where the program makes or reads one, are neither followed nor opened nor written: what stands
+outside of the volume stays as it was, and no line waits for another process. On a file system that is full, what was
+answered before is there. Each run is compared with the replies and the status that it must have; the last line says
+what was run, or the first difference. Devices are made and a small file system is mounted by root alone: without, they
+are left out.
 """
 
 import fcntl
@@ -170,18 +170,16 @@ def check_directories(room):
             outside.compare(f"a {kind} as the lock's file")
 
     closed = stored(room / "closed")
-    for number, wanted in [(0, ([DATA][:0] + ["end source"], 2)), (1, ([], 3))]:
-        run = subprocess.run(
-            ["sh", "-c", f'exec "$@" {number}{"<>"[number]}&-', "", str(PROGRAM), "bp1", "DN-1", f"DS-1:100000:{closed}"],
-            input="".join(f"open {i} 1001 9\n" for i in range(10, 20)).encode(), capture_output=True, timeout=60)
-        want(f"a run without stream {number}", (run.stdout.decode().split("\n")[:-1], run.returncode), wanted)
-    for file in closed.rglob("blk_1*"):
-        want("a file of a run whose output is closed", file.read_bytes()[7 * file.name.endswith("meta"):], b"")
+    lines = "".join(f"open {block} 1001 9\n" for block in range(10, 20)).encode()
+    for stream, wanted in [("<&-", (b"end source\n", 2)), (">&-", (b"", 3))]:
+        words = ["sh", "-c", f'exec "$@" {stream}', "", str(PROGRAM), "bp1", "DN-1", f"DS-1:100000:{closed}"]
+        run = subprocess.run(words, input=lines, capture_output=True, timeout=60)
+        want(f"a run with {stream}", (run.stdout, run.returncode), wanted)
+    for file in closed.rglob("current/rbw/blk_1*"):
+        want("a file of a run whose output is closed", file.read_bytes()[7 * (file.suffix == ".meta") :], b"")
 
-    if os.getuid() == 0:
-        user = {"user": NOBODY, "group": NOBODY, "extra_groups": []}
-    else:
-        user = {}
+    # root may write anywhere
+    user = {"user": NOBODY, "group": NOBODY, "extra_groups": []} if os.getuid() == 0 else {}
     sealed = room / "sealed"
     sealed.mkdir(mode=0o555)
     before = tree(sealed)
@@ -216,7 +214,7 @@ def check_full(room):
         want("a write after them", played(volume, [lines[0], reads[0]]), (["ok", found[0]], 0))
     finally:
         subprocess.run(["umount", str(volume)], check=True)
-    mounted = subprocess.run(["mount", "-t", "tmpfs", "-o", "nr_inodes=3", "tmpfs", str(volume)], check=True)
+    subprocess.run(["mount", "-t", "tmpfs", "-o", "nr_inodes=3", "tmpfs", str(volume)], check=True)
     try:
         want("a file system without room for directories", played(volume, ["read 5"]), REFUSED)
     finally:
@@ -273,27 +271,58 @@ KINDS = {
     "hard link": lambda path, outside: os.link(outside.file, path) is None,
 }
 
-SWAPPED = [kind for kind in KINDS if kind not in ("directory", "hard link")]
-
-# By the name at which the thing stands when the program is started: the lines, and their replies for the things that
-# aren't followed, for a directory, and for a file with a further name.
 BLOCK, META = f"{PLACE}/blk_5", f"{PLACE}/blk_5_1001.meta"
+RBW_BLOCK, RBW_META = "current/rbw/blk_7", "current/rbw/blk_7_1001.meta"
+OTHER, OTHER_DATA = "write 7 1001 61", "data 1001 61"
+
+# By the name at which a thing stands when the program is started: the lines, and their replies where it is a link, a
+# FIFO, a socket or a device; where it is a directory; and where it is a file with a further name.
 AT_START = {
     # the meta file is removed, as one without a block file is
-    BLOCK: (["read 5", WRITE, "read 5", "delete 5"], ["none", "ok", DATA, "ok"], ["none", "failed", "unsure", "failed"], [DATA, "exists", DATA, "ok"]),
+    BLOCK: (
+        ["read 5", WRITE, "read 5", "delete 5"],
+        ["none", "ok", DATA, "ok"],
+        ["none", "failed", "unsure", "failed"],
+        [DATA, "exists", DATA, "ok"],
+    ),
     # the block file waits to be deleted, as one without a meta file does
-    META: (["read 5", "delete 5", WRITE, "read 5"], ["waiting", "ok", "ok", DATA], ["waiting", "ok", "failed", "unsure"], [DATA, "ok", "ok", DATA]),
-    "current/rbw/blk_7": (["write 7 1001 61", "read 7", "delete 7"], ["ok", "data 1001 61", "ok"], ["failed", "waiting", "failed"], ["waiting", "waiting", "ok"]),
-    "current/rbw/blk_7_1001.meta": (["write 7 1001 61", "read 7", "delete 7"], ["ok", "data 1001 61", "ok"], ["failed", "waiting", "failed"], ["ok", "data 1001 61", "ok"]),
+    META: (
+        ["read 5", "delete 5", WRITE, "read 5"],
+        ["waiting", "ok", "ok", DATA],
+        ["waiting", "ok", "failed", "unsure"],
+        [DATA, "ok", "ok", DATA],
+    ),
+    RBW_BLOCK: (
+        [OTHER, "read 7", "delete 7"],
+        ["ok", OTHER_DATA, "ok"],
+        ["failed", "waiting", "failed"],
+        ["waiting", "waiting", "ok"],
+    ),
+    RBW_META: (
+        [OTHER, "read 7", "delete 7"],
+        ["ok", OTHER_DATA, "ok"],
+        ["failed", "waiting", "failed"],
+        ["ok", OTHER_DATA, "ok"],
+    ),
     "tmp/blk_9": (["read 5", "read 9"], [DATA, "none"], [DATA, "none"], [DATA, "none"]),
 }
 
-# By the name at which the thing is put between two lines of one run.
+# The same by the name at which a thing is put between two lines of one run.
 AT_ONCE = {
-    BLOCK: (["read 5", "delete 5", WRITE, "read 5"], ["failed", "ok", "ok", DATA], ["failed", "failed", "unsure", "unsure"], [DATA, "ok", "ok", DATA]),
-    META: (["read 5", "delete 5", WRITE, "read 5"], ["failed", "ok", "ok", DATA], ["failed", "failed", "unsure", "unsure"], [DATA, "ok", "ok", DATA]),
-    "current/rbw/blk_7": (["write 7 1001 61", "read 7"], ["ok", "data 1001 61"], ["failed", "waiting"], ["ok", "data 1001 61"]),
-    "current/rbw/blk_7_1001.meta": (["write 7 1001 61", "read 7"], ["ok", "data 1001 61"], ["failed", "waiting"], ["ok", "data 1001 61"]),
+    BLOCK: (
+        ["read 5", "delete 5", WRITE, "read 5"],
+        ["failed", "ok", "ok", DATA],
+        ["failed", "failed", "unsure", "unsure"],
+        [DATA, "ok", "ok", DATA],
+    ),
+    META: (
+        ["read 5", "delete 5", WRITE, "read 5"],
+        ["failed", "ok", "ok", DATA],
+        ["failed", "failed", "unsure", "unsure"],
+        [DATA, "ok", "ok", DATA],
+    ),
+    RBW_BLOCK: ([OTHER, "read 7"], ["ok", OTHER_DATA], ["failed", "waiting"], ["ok", OTHER_DATA]),
+    RBW_META: ([OTHER, "read 7"], ["ok", OTHER_DATA], ["failed", "waiting"], ["ok", OTHER_DATA]),
 }
 
 LAYOUT = ["current", "current/rbw", "current/finalized", "current/finalized/subdir0", PLACE, "tmp"]
@@ -361,9 +390,10 @@ def check_layout(room):
             continue
         before = tree(volume)
         if run:
-            lines, wanted = ["write 7 1001 61", "read 7"], [["failed", "waiting"], ["failed", "unsure"]]
-            replies, status = run.end(["read 5", *lines] if name != "current/bp1/current/rbw" else lines)
-            want(what, (replies[-2:] in wanted, set(replies[:-2]) <= {"failed"}, status), (True, True, 0))
+            lines = ["read 5"] if name != "current/bp1/current/rbw" else []
+            replies, status = run.end([*lines, OTHER, "read 7"])
+            want(what, (replies[:-2], replies[-2], status), (["failed"] * len(lines), "failed", 0))
+            want(what, replies[-1] in ["waiting", "unsure"], True)
         else:
             want(what, played(volume, ["read 5"]), REFUSED)
             want(f"{what}: the volume", tree(volume), before)
@@ -384,7 +414,8 @@ def main():
             room.mkdir()
             counts.append(check(room))
     full = "a full file system" if counts[3] else "no full file system (mount isn't allowed here)"
-    print(f"locks, two runs, directories and streams, {full}, {counts[4]} things at names and {counts[5]} in place of directories: all as wanted")
+    things = f"{counts[4]} things at names, {counts[5]} in place of directories"
+    print(f"locks, two runs, directories, {full}, {things}: all right")
 
 
 if __name__ == "__main__":
