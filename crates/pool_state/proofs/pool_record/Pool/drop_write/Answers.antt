@@ -82,4 +82,5 @@ returns-clause-step g c cells bytes left stands grows =
           (absent_passes old w.id w.stamp left bytes belongs.valid.0 grows _ belongs.block_number belongs.meta_number refl belongs.entry step
           (λ before after stepped. stepped.2 ∙ ap (λ v. remove_in v w.vol (writing_meta w.stamp)) stepped.1))),
     )) stands
+
 -- timed imp

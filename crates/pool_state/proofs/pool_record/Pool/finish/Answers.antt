@@ -99,4 +99,5 @@ returns-clause-step g c cells bytes left stands belongs grows =
           (final_passes old _ bytes belongs left grows step
           (λ before after stepped. stepped.2 ∙ ap (λ v. publish_in v p.vol writing_block block bytes) stepped.1))),
     )) stands
+
 -- timed imp

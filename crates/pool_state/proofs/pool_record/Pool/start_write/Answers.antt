@@ -171,4 +171,5 @@ returns-clause-step g c cells stands =
           (grows_passes old id c.find.ensures.valid none c.args.stamp c.args.need 1 c.get-in_range.ensures.in_range (omega arith) old.some_volume
           (g.D.PoolDisks.worlds c.create-2.new.self) (g.D.PoolDisks.volume_count c.create-2.new.self) (Rattle.pool_state.specs.Books.entry_at c.change.new.self) (Rattle.pool_state.specs.Books.found_at c.change.new.self) same_volumes listed b m)),
     )) stands
+
 -- timed imp
