@@ -8,7 +8,4 @@ pub mod Readers
 pub mod Marks
 pub mod Looking
 pub mod Places
-pub mod Plain
-pub mod PlainLaws
-pub mod PlainStreams
 pub mod Untold

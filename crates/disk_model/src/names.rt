@@ -1,5 +1,5 @@
 //! The names of a directory.
-ghost use Rattle.std.specs.Prelude.{◌≡◌, ◌<◌, ◌++◌, [], ◌∷◌, List, ℕ, length, map, OnOk, OnErr, All, AllPairs, slice_get, Some, IsTrue, ◌↔◌};
+ghost use Rattle.std.specs.Prelude.{◌≡◌, ◌<◌, ◌++◌, [], ◌∷◌, List, ℕ, length, map, OnOk, OnErr, All, AllPairs, slice_get, Some};
 ghost use Rattle.disk_model.specs.Names.{IsBelow, IsInOrder};
 
 use std::alloc::{AllocError, Global};
@@ -18,13 +18,6 @@ impl Model for Names {
     ghost view = { λ names. map (λ text. text.bytes.items) names.texts.items };
 
     ghost invariant = { λ names. IsInOrder (map (λ text. text.bytes.items) names.texts.items) };
-}
-
-// Whether all texts come before a name.
-fn all_below(texts: &[String], name: &str) -> bool
-    ensures { IsTrue result ↔ All (λ text. IsBelow text.bytes.items name.now) texts.now }
-{
-    texts.iter().all(|text| text.as_str() < name)
 }
 
 impl Names {
@@ -47,13 +40,6 @@ impl Names {
     {
         self.texts.push(String::from_str(self.alloc, name)?)?;
         Ok(())
-    }
-
-    /// Whether all names come before this one.
-    pub fn all_before(&self, name: &str) -> bool
-        ensures { IsTrue result ↔ All (λ earlier. IsBelow earlier name.now) self.now }
-    {
-        all_below(&self.texts, name)
     }
 
     /// How many names there are.

@@ -5,8 +5,8 @@ ghost use Rattle.map_model.specs.World.{DraftsAside};
 
 use super::*;
 use crate::tests::{WORDS, only, words_of};
-use disk_model::{PlainSink, PlainSource, PoolDisks};
-use mem_disks::{Call, FailRule, MemDisks};
+use disk_model::PoolDisks;
+use mem_disks::{Call, FailRule, MemDisks, MemSink, MemSource};
 use std::alloc::{AllocError, Global};
 use std::process::Abort;
 use std::test::Fail;
@@ -148,8 +148,8 @@ fn run_over(alloc: Global, disk: MemDisks, commands: &[Command]) -> Result<Run, 
     for command in commands {
         script.push_str(command.text())?;
     }
-    let mut source = PlainSource::make(script.into_bytes());
-    let mut sink = PlainSink::make(alloc);
+    let mut source = MemSource::make(script.into_bytes());
+    let mut sink = MemSink::make(alloc);
     let run = play(alloc, words.as_slice(), disks, &mut source, &mut sink);
     Ok(Run {
         status: run.status,

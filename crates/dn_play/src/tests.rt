@@ -4,8 +4,8 @@ ghost use Rattle.disk_model.specs.Told.{InEachWorld};
 ghost use Rattle.map_model.specs.World.{DraftsAside};
 
 use super::*;
-use disk_model::{PlainDisks, PlainSink, PlainSource, PoolDisks};
-use mem_disks::{Call, FailRule, MemDisks};
+use disk_model::PoolDisks;
+use mem_disks::{Call, FailRule, MemDisks, MemSink, MemSource};
 use std::alloc::{AllocError, Global};
 use std::process::Abort;
 use std::test::Fail;
@@ -14,13 +14,13 @@ pub(crate) const WORDS: &str = "bp1 DN-1 DS-1:1000:v1";
 
 // The empty disks of one pool.
 #[tactic(auto, using(crate::proofs::OneDisk::holds_of_one))]
-fn empty_disks(alloc: Global, volumes: u8) -> Result<Vec<PlainDisks>, AllocError>
+fn empty_disks(alloc: Global, volumes: u8) -> Result<Vec<MemDisks>, AllocError>
     requires some { 1 ≤ volumes }
     requires limit { volumes ≤ 64 }
-    ensures aside { IfOk result (λ disks. All (λ d. InEachWorld (⟦<PlainDisks as PoolDisks>⟧.worlds d) DraftsAside) disks.items) }
+    ensures aside { IfOk result (λ disks. All (λ d. InEachWorld (⟦<MemDisks as PoolDisks>⟧.worlds d) DraftsAside) disks.items) }
 {
     let mut disks = Vec::new(alloc);
-    disks.push(PlainDisks::make(alloc, volumes))?;
+    disks.push(MemDisks::empty(alloc, volumes)?)?;
     Ok(disks)
 }
 
@@ -38,8 +38,8 @@ fn played(
     alloc: Global,
     words: &str,
     volumes: u8,
-    mut source: PlainSource,
-    mut sink: PlainSink,
+    mut source: MemSource,
+    mut sink: MemSink,
 ) -> Result<(u8, Vec<u8>), AllocError>
     requires some { 1 ≤ volumes }
     requires limit { volumes ≤ 64 }
@@ -103,8 +103,8 @@ fn lines_are_answered_in_any_pieces(rt: HostRuntime) -> Result<(), Fail> {
         ),
     ] {
         for most in [1, 65_536] {
-            let source = PlainSource::in_pieces(script.as_bytes().to_vec(alloc)?, most);
-            let (status, shown) = played(alloc, WORDS, 1, source, PlainSink::make(alloc))?;
+            let source = MemSource::in_pieces(script.as_bytes().to_vec(alloc)?, most);
+            let (status, shown) = played(alloc, WORDS, 1, source, MemSink::make(alloc))?;
             assert_eq!(rt; status, want, "of {script}");
             assert_eq!(rt; shown.as_slice(), replies.as_bytes(), "of {script}");
         }
@@ -121,8 +121,8 @@ fn other_words_are_refused(rt: HostRuntime) -> Result<(), Fail> {
         ("bp1 DN-1 DS-1:1000:v1 DS-2:1000:v2", 1, 1, "end usage\n"),
         ("bp1 DN-1 DS-1:1000:v1 DS-2:1000:v2", 2, 8, "end later 0\n"),
     ] {
-        let source = PlainSource::make(b"read 5\n".to_vec(alloc)?);
-        let (status, shown) = played(alloc, words, volumes, source, PlainSink::make(alloc))?;
+        let source = MemSource::make(b"read 5\n".to_vec(alloc)?);
+        let (status, shown) = played(alloc, words, volumes, source, MemSink::make(alloc))?;
         assert_eq!(rt; status, want, "of {words}");
         assert_eq!(rt; shown.as_slice(), shown_text.as_bytes(), "of {words}");
     }
@@ -132,12 +132,12 @@ fn other_words_are_refused(rt: HostRuntime) -> Result<(), Fail> {
 #[test]
 fn streams_that_fail_end_a_run(rt: HostRuntime) -> Result<(), Fail> {
     let alloc = rt.alloc();
-    let source = PlainSource::make(b"read 5\n".to_vec(alloc)?).failing_after(0);
-    let (status, shown) = played(alloc, WORDS, 1, source, PlainSink::make(alloc))?;
+    let source = MemSource::make(b"read 5\n".to_vec(alloc)?).failing_after(0);
+    let (status, shown) = played(alloc, WORDS, 1, source, MemSink::make(alloc))?;
     assert_eq!(rt; status, 2);
     assert_eq!(rt; shown.as_slice(), b"end source\n".as_slice());
-    let source = PlainSource::make(b"read 5\n".to_vec(alloc)?);
-    let sink = PlainSink::make(alloc).failing_after(0);
+    let source = MemSource::make(b"read 5\n".to_vec(alloc)?);
+    let sink = MemSink::make(alloc).failing_after(0);
     let (status, shown) = played(alloc, WORDS, 1, source, sink)?;
     assert_eq!(rt; status, 3);
     assert_eq!(rt; shown.as_slice(), b"".as_slice());
@@ -181,8 +181,8 @@ fn calls_that_fail_are_answered(rt: HostRuntime) -> Result<(), Fail> {
     ] {
         let disks = failing_disks(alloc, call, nth)?;
         let script = b"write 5 1001 61\nread 5\ndelete 5\nread 5\n";
-        let mut source = PlainSource::make(script.to_vec(alloc)?);
-        let mut sink = PlainSink::make(alloc);
+        let mut source = MemSource::make(script.to_vec(alloc)?);
+        let mut sink = MemSink::make(alloc);
         let run = play(alloc, words.as_slice(), disks, &mut source, &mut sink);
         assert_eq!(rt; run.status, want, "of {call:?} {nth}");
         assert_eq!(rt; sink.bytes(), replies.as_bytes(), "of {call:?} {nth}");
@@ -202,8 +202,8 @@ fn a_push_that_fails_gives_its_writer_up(rt: HostRuntime) -> Result<(), Fail> {
     ] {
         let disks = failing_disks(alloc, Call::Append, nth)?;
         let script = b"open 5 1001 2\npush 5 61\npush 5 62\nfinish 5\nread 5\ndelete 5\nread 5\n";
-        let mut source = PlainSource::make(script.to_vec(alloc)?);
-        let mut sink = PlainSink::make(alloc);
+        let mut source = MemSource::make(script.to_vec(alloc)?);
+        let mut sink = MemSink::make(alloc);
         let run = play(alloc, words.as_slice(), disks, &mut source, &mut sink);
         assert_eq!(rt; run.status, 0);
         assert_eq!(rt; sink.bytes(), replies.as_bytes(), "of {nth}");
@@ -241,8 +241,8 @@ fn openings_again_that_fail_end_a_run(rt: HostRuntime) -> Result<(), Fail> {
         let disks = failing_disks(alloc, call, nth)?;
         let script =
             b"write 5 1001 61\nopen 6 1002 1\nreopen\nread 5\nread 6\ndrop 6\nopen 7 1 1\ndrop 7\nread 7\n";
-        let mut source = PlainSource::make(script.to_vec(alloc)?);
-        let mut sink = PlainSink::make(alloc);
+        let mut source = MemSource::make(script.to_vec(alloc)?);
+        let mut sink = MemSink::make(alloc);
         let run = play(alloc, words.as_slice(), disks, &mut source, &mut sink);
         assert_eq!(rt; run.status, want, "of {call:?} {nth}");
         assert_eq!(rt; sink.bytes(), replies.as_bytes(), "of {call:?} {nth}");
@@ -325,8 +325,8 @@ fn two_metas_of_a_block_end_a_run(rt: HostRuntime) -> Result<(), Fail> {
     let alloc = rt.alloc();
     let words = words_of(alloc, WORDS)?;
     let disks = doubtful_disks(alloc)?;
-    let mut source = PlainSource::make(b"read 5\n".to_vec(alloc)?);
-    let mut sink = PlainSink::make(alloc);
+    let mut source = MemSource::make(b"read 5\n".to_vec(alloc)?);
+    let mut sink = MemSink::make(alloc);
     let run = play(alloc, words.as_slice(), disks, &mut source, &mut sink);
     assert_eq!(rt; run.status, 8);
     assert_eq!(rt; sink.bytes(), b"end later 0\n".as_slice());
@@ -340,8 +340,8 @@ fn stored_replicas_are_opened(rt: HostRuntime) -> Result<(), Fail> {
     let disks = stored_disks(alloc)?;
     let script =
         b"read 5\nwrite 5 1002 61\nread 6\nread 7\nread 8\ndelete 6\nwrite 6 1002 61\nread 6\ndelete 5\nread 5\n";
-    let mut source = PlainSource::make(script.to_vec(alloc)?);
-    let mut sink = PlainSink::make(alloc);
+    let mut source = MemSource::make(script.to_vec(alloc)?);
+    let mut sink = MemSink::make(alloc);
     let run = play(alloc, words.as_slice(), disks, &mut source, &mut sink);
     let replies =
         "data 1001 68656c6c6f\nexists\nwaiting\nnone\nwaiting\nok\nok\ndata 1002 61\nok\nnone\n";

@@ -5,8 +5,8 @@ ghost use Rattle.map_model.specs.World.{DraftsAside};
 
 use super::*;
 use crate::tests::{WORDS, only, put_file, words_of};
-use disk_model::{PlainSink, PlainSource, PoolDisks};
-use mem_disks::MemDisks;
+use disk_model::PoolDisks;
+use mem_disks::{MemDisks, MemSink, MemSource};
 use std::alloc::{AllocError, Global};
 use std::process::Abort;
 use std::test::Fail;
@@ -55,8 +55,8 @@ fn a_read_answers_the_verdict_of_the_meta_file(rt: HostRuntime) -> Result<(), Fa
         ),
         (&[0, 1, 0, 0, 0, 2, 0], "data 1001 313233343536373839\n"),
     ] {
-        let mut source = PlainSource::make(b"read 5\n".to_vec(alloc)?);
-        let mut sink = PlainSink::make(alloc);
+        let mut source = MemSource::make(b"read 5\n".to_vec(alloc)?);
+        let mut sink = MemSink::make(alloc);
         let disks = nine_beside(alloc, meta)?;
         let run = play(alloc, words.as_slice(), disks, &mut source, &mut sink);
         assert_eq!(rt; run.status, 0);
@@ -79,8 +79,8 @@ fn line_of_length(alloc: Global, len: usize) -> Result<Vec<u8>, AllocError> {
 fn left_by(alloc: Global, script: Vec<u8>) -> Result<Option<MemDisks>, AllocError> {
     let words = words_of(alloc, WORDS)?;
     let disks = only(alloc, MemDisks::empty(alloc, 1)?)?;
-    let mut source = PlainSource::make(script);
-    let mut sink = PlainSink::make(alloc);
+    let mut source = MemSource::make(script);
+    let mut sink = MemSink::make(alloc);
     let mut run = play(alloc, words.as_slice(), disks, &mut source, &mut sink);
     Ok(run.disks.pop())
 }

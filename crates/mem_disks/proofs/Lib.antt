@@ -5,3 +5,4 @@ pub mod Directory
 pub mod Listings
 pub mod Remains
 pub mod Bare
+pub mod Pieces

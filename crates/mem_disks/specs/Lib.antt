@@ -5,3 +5,4 @@ pub mod Entries
 pub mod Standing
 pub mod Listing
 pub mod Images
+pub mod Streams

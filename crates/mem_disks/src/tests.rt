@@ -1,11 +1,11 @@
-//! The disks in memory, through the traits: what fails by which rule, and what stands then.
+//! The disks, streams and the clock in memory, through the traits: what fails by which rule, and what stands then.
 ghost use Rattle.std.specs.Prelude.{◌≡◌, ◌≤◌, [], ◌∷◌, Some, IfOk, OnOk};
 ghost use Rattle.disk_model.specs.Worlds.{Holds};
 ghost use Rattle.disk_model.specs.Told.{InEachWorld, NoDraftAt};
 ghost use Rattle.mem_disks.specs.History.{empty_world};
 
 use super::*;
-use disk_model::{DiskError, Draft, Failed, PoolDisks, Reader};
+use disk_model::{Clock, DiskError, Draft, Failed, PoolDisks, Reader, Sink, Source};
 use std::alloc::{AllocError, Global};
 use std::process::Abort;
 use std::test::Fail;
@@ -55,9 +55,6 @@ fn files_are_written_listed_read_and_removed(rt: HostRuntime) -> Result<(), Fail
     assert_eq!(rt; disks.volumes(), 2);
     write_file(alloc, &mut disks, 1, "tmp/draft", "current/rbw/b", b"hi")?;
     write_file(alloc, &mut disks, 1, "tmp/draft", "current/rbw/a", b"hello")?;
-    let Some(mut reader) = disks.lend_reader(alloc, 1, "current/rbw/a")? else {
-        panic!(rt; "no reader");
-    };
     assert_eq!(rt; disks.bytes(1, "current/rbw/a"), Some(b"hello".as_slice()));
     assert_eq!(rt; disks.bytes(2, "current/rbw/a"), None);
     assert_eq!(rt; disks.size(1, "current/rbw/b"), Ok(Some(2)));
@@ -71,11 +68,42 @@ fn files_are_written_listed_read_and_removed(rt: HostRuntime) -> Result<(), Fail
     disks.put(1, "current/rbw/c", b"put")?;
     assert_eq!(rt; disks.bytes(1, "current/rbw/c"), Some(b"put".as_slice()));
     assert_eq!(rt; disks.list(alloc, 1, "current/rbw")?.len(), 2);
+    assert_eq!(rt; disks.faults(), 0);
+    assert_eq!(rt; disks.lacks(), 0);
+    Ok(())
+}
+
+#[test]
+fn a_reader_gives_the_bytes_of_a_removed_file(rt: HostRuntime) -> Result<(), Fail> {
+    let alloc = rt.alloc();
+    let mut disks = MemDisks::empty(alloc, 1)?;
+    write_file(alloc, &mut disks, 1, "tmp/draft", "a", b"hello")?;
+    let Some(mut reader) = disks.lend_reader(alloc, 1, "a")? else {
+        panic!(rt; "no reader");
+    };
+    assert_eq!(rt; disks.remove(1, "a"), Ok(()));
+    assert_eq!(rt; disks.remove(1, "a"), Ok(()));
+    assert_eq!(rt; disks.size(1, "a"), Ok(None));
+    assert_eq!(rt; disks.size(1, "tmp/draft"), Ok(None));
     let mut out = [0; 4];
     assert_eq!(rt; reader.read(0, &mut out), Ok(4));
     assert_eq!(rt; out.as_slice(), b"hell".as_slice());
-    assert_eq!(rt; disks.faults(), 0);
-    assert_eq!(rt; disks.lacks(), 0);
+    assert_eq!(rt; reader.read(3, &mut out), Ok(2));
+    assert_eq!(rt; &out[..2], b"lo".as_slice());
+    assert_eq!(rt; reader.read(5, &mut out), Ok(0));
+    Ok(())
+}
+
+#[test]
+fn drafts_have_numbers_and_are_listed(rt: HostRuntime) -> Result<(), Fail> {
+    let alloc = rt.alloc();
+    let mut disks = MemDisks::empty(alloc, 64)?;
+    let first = disks.create(alloc, 64, "tmp/x")?;
+    assert_eq!(rt; first.number(), 0);
+    let names = disks.list(alloc, 64, "tmp")?;
+    assert_eq!(rt; names.len(), 1);
+    assert_eq!(rt; names.get(0), "x");
+    assert_eq!(rt; disks.list(alloc, 63, "tmp")?.len(), 0);
     Ok(())
 }
 
@@ -225,4 +253,58 @@ fn images_count_later_calls_as_not_done(rt: HostRuntime) -> Result<(), Fail> {
     let image = disks.image(alloc, true, b'x', 3)?;
     assert_eq!(rt; image.bytes(1, "a"), Some(b"hi".as_slice()));
     Ok(())
+}
+
+// Reads all that a source has left through a small buffer, and writes it to a sink. Answers how many bytes were read.
+fn copy_pieces<S: Source, K: Sink>(source: &mut S, sink: &mut K) -> Result<u64, Failed> {
+    let mut out = [0; 4];
+    let mut count = 0u64;
+    for _ in 0..100 {
+        let read = source.read(&mut out)?;
+        if read == 0 {
+            return Ok(count);
+        }
+        sink.write(&out[..read])?;
+        count = count.saturating_add(read as u64);
+    }
+    Ok(count)
+}
+
+#[test]
+fn sources_and_sinks_hand_over_pieces_and_fail(rt: HostRuntime) -> Result<(), Fail> {
+    let alloc = rt.alloc();
+    let mut source = MemSource::make(b"hello world".to_vec(alloc)?);
+    let mut sink = MemSink::make(alloc);
+    assert_eq!(rt; copy_pieces(&mut source, &mut sink), Ok(11));
+    assert_eq!(rt; sink.bytes(), b"hello world".as_slice());
+
+    let mut source = MemSource::in_pieces(b"hello".to_vec(alloc)?, 2);
+    let mut sink = MemSink::in_pieces(alloc, 1);
+    assert_eq!(rt; copy_pieces(&mut source, &mut sink), Ok(5));
+    assert_eq!(rt; sink.bytes(), b"hlo".as_slice());
+
+    let mut source = MemSource::in_pieces(b"hello".to_vec(alloc)?, 2).failing_after(2);
+    let mut sink = MemSink::make(alloc);
+    assert_eq!(rt; copy_pieces(&mut source, &mut sink), Err(Failed));
+    assert_eq!(rt; copy_pieces(&mut source, &mut sink), Err(Failed));
+    assert_eq!(rt; sink.bytes(), b"hell".as_slice());
+
+    let mut source = MemSource::make(b"hello".to_vec(alloc)?);
+    let mut sink = MemSink::make(alloc).failing_after(1);
+    assert_eq!(rt; copy_pieces(&mut source, &mut sink), Err(Failed));
+    assert_eq!(rt; sink.bytes(), b"hell".as_slice());
+    Ok(())
+}
+
+// The time after a pause.
+fn pause_from<C: Clock + Drop>(mut clock: C, ms: u64) -> u64 {
+    clock.pause(ms);
+    clock.now_ms()
+}
+
+#[test]
+fn a_clock_goes_on_by_its_pauses(rt: HostRuntime) {
+    assert_eq!(rt; pause_from(MemClock::make(7), 5), 12);
+    assert_eq!(rt; pause_from(MemClock::make(u64::MAX - 5), 4), u64::MAX - 1);
+    assert_eq!(rt; pause_from(MemClock::make(u64::MAX - 5), 6), u64::MAX);
 }

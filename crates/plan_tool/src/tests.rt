@@ -1,7 +1,7 @@
 //! Words of command lines, and inputs in memory.
 use super::*;
 use crate::ending::Ending;
-use disk_model::{PlainSink, PlainSource};
+use mem_disks::{MemSink, MemSource};
 use script_lang::node_words::WordsFault;
 use std::alloc::{AllocError, Global};
 use std::test::Fail;
@@ -64,7 +64,7 @@ fn refused_words(rt: HostRuntime) -> Result<(), Fail> {
 
 // How an input ends that is read in pieces of 7 bytes, and how many rows it has.
 fn ended(alloc: Global, text: &str) -> Result<(Ending, usize), AllocError> {
-    let mut source = PlainSource::in_pieces(text.as_bytes().to_vec(alloc)?, 7);
+    let mut source = MemSource::in_pieces(text.as_bytes().to_vec(alloc)?, 7);
     match read_rows(alloc, &mut source) {
         Ok(rows) => Ok((Ending::Complete, rows.len())),
         Err(ending) => Ok((ending, 0)),
@@ -120,7 +120,7 @@ fn rows_are_kept_and_a_65th_is_refused(rt: HostRuntime) -> Result<(), Fail> {
     for i in 0..64u32 {
         text.push_str(&format!(in alloc; "DS-{i} 100 {i}\n")?)?;
     }
-    let mut source = PlainSource::make(text.as_str().as_bytes().to_vec(alloc)?);
+    let mut source = MemSource::make(text.as_str().as_bytes().to_vec(alloc)?);
     let Ok(rows) = read_rows(alloc, &mut source) else {
         assert!(rt; false);
         return Ok(());
@@ -149,8 +149,8 @@ fn rows_are_kept_and_a_65th_is_refused(rt: HostRuntime) -> Result<(), Fail> {
 fn planned(
     alloc: Global,
     line: &str,
-    mut source: PlainSource,
-    mut sink: PlainSink,
+    mut source: MemSource,
+    mut sink: MemSink,
 ) -> Result<(u8, Vec<u8>), AllocError> {
     let words = words_of(alloc, line)?;
     let status = plan_main(alloc, words.as_slice(), &mut source, &mut sink);
@@ -183,8 +183,8 @@ fn runs_of_the_planner(rt: HostRuntime) -> Result<(), Fail> {
         ("--node DN-1 --at 7", "DS-1 0 5\n", 5, "end line 1 6\n"),
         ("--at 7", REPORT, 1, "end usage\n"),
     ] {
-        let source = PlainSource::in_pieces(text.as_bytes().to_vec(alloc)?, 7);
-        let (ended, shown) = planned(alloc, words, source, PlainSink::in_pieces(alloc, 5))?;
+        let source = MemSource::in_pieces(text.as_bytes().to_vec(alloc)?, 7);
+        let (ended, shown) = planned(alloc, words, source, MemSink::in_pieces(alloc, 5))?;
         assert_eq!(rt; ended, status);
         assert_eq!(rt; shown.as_slice(), written.as_bytes());
     }
@@ -195,12 +195,12 @@ fn runs_of_the_planner(rt: HostRuntime) -> Result<(), Fail> {
 fn streams_that_fail(rt: HostRuntime) -> Result<(), Fail> {
     let alloc = rt.alloc();
     let words = "--node DN-1 --at 0";
-    let source = PlainSource::in_pieces(REPORT.as_bytes().to_vec(alloc)?, 7).failing_after(2);
-    let (ended, shown) = planned(alloc, words, source, PlainSink::make(alloc))?;
+    let source = MemSource::in_pieces(REPORT.as_bytes().to_vec(alloc)?, 7).failing_after(2);
+    let (ended, shown) = planned(alloc, words, source, MemSink::make(alloc))?;
     assert_eq!(rt; ended, 2);
     assert_eq!(rt; shown.as_slice(), "end source\n".as_bytes());
-    let source = PlainSource::make(REPORT.as_bytes().to_vec(alloc)?);
-    let sink = PlainSink::in_pieces(alloc, 5).failing_after(2);
+    let source = MemSource::make(REPORT.as_bytes().to_vec(alloc)?);
+    let sink = MemSink::in_pieces(alloc, 5).failing_after(2);
     let (ended, shown) = planned(alloc, words, source, sink)?;
     assert_eq!(rt; ended, 3);
     assert_eq!(rt; shown.as_slice(), "{\"nodeUUID".as_bytes());

@@ -4,7 +4,8 @@ ghost use Rattle.disk_model.specs.Told.{InEachWorld, NoDraftAt};
 ghost use Rattle.map_model.specs.World.{DraftsAside};
 
 use super::*;
-use disk_model::{DiskError, Draft, Failed, PlainDisks, PoolDisks};
+use disk_model::{DiskError, Draft, Failed, PoolDisks};
+use mem_disks::MemDisks;
 use std::alloc::Global;
 use std::process::Abort;
 use std::test::Fail;
@@ -55,7 +56,7 @@ fn opened<D: PoolDisks>(alloc: Global, disks: D) -> Answer
 
 // What the opening of disks with this one file answers.
 fn opened_with(alloc: Global, path: &str) -> Result<Answer, DiskError> {
-    let mut disks = PlainDisks::make(alloc, 1);
+    let mut disks = MemDisks::empty(alloc, 1)?;
     put_file(alloc, &mut disks, path)?;
     Ok(opened(alloc, disks))
 }
@@ -63,7 +64,7 @@ fn opened_with(alloc: Global, path: &str) -> Result<Answer, DiskError> {
 #[test]
 fn a_block_file_waits_and_a_meta_alone_goes(rt: HostRuntime) -> Result<(), Fail> {
     let alloc = rt.alloc();
-    assert_eq!(rt; opened(alloc, PlainDisks::make(alloc, 1)), Opened(0, 0));
+    assert_eq!(rt; opened(alloc, MemDisks::empty(alloc, 1)?), Opened(0, 0));
     for (path, answer) in [
         ("current/rbw/blk_5", Opened(1, 1)),
         ("current/finalized/subdir0/subdir0/blk_5", Opened(1, 1)),

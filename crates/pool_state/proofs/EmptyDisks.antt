@@ -3,9 +3,9 @@ use Rattle.std.proofs.Common.{false, Result, Ok, Err, ap, ◌∙◌, ◌-◌, ar
 use Rattle.std.proofs.lemmas.Bool.{cases_Bool, eq-eqb}
 use Rattle.std.proofs.lemmas.Option.{same_Some}
 use Rattle.disk_model.specs.Worlds.{World, has_draft}
-use Rattle.disk_model.specs.Plain.{empty_world}
 use Rattle.disk_model.specs.Told.{IsWorldOf}
 use Rattle.disk_model.proofs.Laws.{only_one}
+use Rattle.mem_disks.specs.History.{empty_world}
 use Rattle.std.specs.Result.{is_err, OnOk}
 use Rattle.map_model.specs.Cells.{Cell, Cells, growing}
 use Rattle.map_model.specs.Slots.{File, is_file, is_standing, view_of}

@@ -1,18 +1,21 @@
 //! A block's way through a pool over disks in memory.
+ghost use Rattle.std.specs.Prelude.{IfOk};
 ghost use Rattle.pool_state.specs.Stands.{StandsForSome};
 
 use super::*;
-use disk_model::{PlainDisks, PoolDisks, Reader};
-use std::alloc::Global;
+use disk_model::{PoolDisks, Reader};
+use mem_disks::MemDisks;
+use std::alloc::{AllocError, Global};
 use std::process::Abort;
 use std::test::Fail;
 use volume_layout::{BlockId, Stamp};
 
 // A pool without replicas, over disks in memory.
-fn empty_pool(alloc: Global) -> Pool<PlainDisks>
-    ensures stands { StandsForSome result }
+fn empty_pool(alloc: Global) -> Result<Pool<MemDisks>, AllocError>
+    ensures stands { IfOk result (λ pool. StandsForSome pool) }
 {
-    make_pool(alloc, PlainDisks::make(alloc, 1))
+    let disks = MemDisks::empty(alloc, 1)?;
+    Ok(make_pool(alloc, disks))
 }
 
 // Writes a whole block.
@@ -100,7 +103,7 @@ fn refused_meanwhile<D: PoolDisks>(
 #[test]
 fn a_block_is_written_and_read(rt: HostRuntime) -> Result<(), Fail> {
     let alloc = rt.alloc();
-    let mut pool = empty_pool(alloc);
+    let mut pool = empty_pool(alloc)?;
     let (Some(id), Some(stamp)) = (BlockId::new(5), Stamp::new(1001)) else {
         panic!(rt; "no id");
     };
@@ -125,7 +128,7 @@ fn a_block_is_written_and_read(rt: HostRuntime) -> Result<(), Fail> {
 #[test]
 fn a_block_that_is_written_refuses_others(rt: HostRuntime) -> Result<(), Fail> {
     let alloc = rt.alloc();
-    let mut pool = empty_pool(alloc);
+    let mut pool = empty_pool(alloc)?;
     let (Some(id), Some(stamp)) = (BlockId::new(5), Stamp::new(1001)) else {
         panic!(rt; "no id");
     };

@@ -3,7 +3,8 @@ ghost use Rattle.std.specs.Prelude.{◌≡◌, codes, OnOk};
 ghost use Rattle.disk_model.specs.Told.{NoDraftAt};
 
 use super::*;
-use disk_model::{DiskError, Draft, Failed, PlainDisks, PoolDisks};
+use disk_model::{DiskError, Draft, Failed, PoolDisks};
+use mem_disks::MemDisks;
 use std::alloc::Global;
 use std::test::Fail;
 use volume_layout::Stamp;
@@ -64,7 +65,7 @@ fn row(survey: &Survey, id: u64) -> Option<Row> {
 #[test]
 fn files_are_found_where_they_belong(rt: HostRuntime) -> Result<(), Fail> {
     let alloc = rt.alloc();
-    let mut disks = PlainDisks::make(alloc, 2);
+    let mut disks = MemDisks::empty(alloc, 2)?;
     let put = put_files(
         alloc,
         &mut disks,

@@ -1,31 +1,31 @@
 //! A clock in memory.
 ghost use Rattle.std.specs.Prelude.{◌≡◌, ◌+◌, ◌-◌, ◌^◌, ℕ, min};
 
-use crate::Clock;
+use disk_model::Clock;
 use std::marker::Model;
 
 /// A clock that stands at its moment and goes on by its pauses alone, up to 2^64-1 milliseconds.
 #[derive(Drop)]
-pub struct PlainClock {
+pub struct MemClock {
     now_ms: u64,
 }
 
-impl Model for PlainClock {
+impl Model for MemClock {
     ghost Value = { ℕ };
 
     ghost view = { λ clock. clock.now_ms };
 }
 
-impl PlainClock {
+impl MemClock {
     /// A clock that stands at this moment, in milliseconds.
     pub fn make(now_ms: u64) -> Self
         ensures { result ≡ now_ms }
     {
-        PlainClock { now_ms }
+        MemClock { now_ms }
     }
 }
 
-impl Clock for PlainClock {
+impl Clock for MemClock {
     fn now_ms(&mut self) -> u64
         ensures moment { result ≡ self.old }
         ensures stands { self.new ≡ self.old }

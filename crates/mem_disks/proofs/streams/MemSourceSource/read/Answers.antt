@@ -1,8 +1,8 @@
 use Rattle.std.proofs.Common.{ℕ, ◌+◌, drop, ap, arith, length-append}
 use Rattle.std.proofs.lemmas.List.{drop_all, length-drop, length-take-le, length-take}
-use Rattle.disk_model.specs.PlainStreams.{SourceState}
-use Rattle.disk_model.proofs.Pieces.{handed_out}
-use Rattle.disk_model.proofs.plain_streams.PlainSourceSource.read.Goals as goal
+use Rattle.mem_disks.specs.Streams.{SourceState}
+use Rattle.mem_disks.proofs.Pieces.{handed_out}
+use Rattle.mem_disks.proofs.streams.MemSourceSource.read.Goals as goal
 
 pub returns-clause-bytes : goal.returns-clause-bytes
 returns-clause-bytes c = (

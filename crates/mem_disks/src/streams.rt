@@ -3,9 +3,9 @@ ghost use Rattle.std.specs.Prelude.{◌≡◌, ◌+◌, ◌-◌, ◌<◌, ◌≤
 ghost use Rattle.std.specs.Io.{ReadsAtMost, WritesAtMost};
 ghost use Rattle.std.specs.Io.KnownBytes.{ReadConsumes, WriteAppends};
 ghost use Rattle.disk_model.specs.Causes.{HasCause, Rose};
-ghost use Rattle.disk_model.specs.PlainStreams.{SourceState, SinkState, calls_after, NoCallLeft, Answers};
+ghost use Rattle.mem_disks.specs.Streams.{SourceState, SinkState, calls_after, NoCallLeft, Answers};
 
-use crate::{Failed, Sink, Source};
+use disk_model::{Failed, Sink, Source};
 use std::alloc::Global;
 use std::marker::Model;
 
@@ -47,14 +47,14 @@ impl Calls {
 
 /// Bytes in memory, to be read from the front.
 #[derive(Drop)]
-pub struct PlainSource {
+pub struct MemSource {
     bytes: Vec<u8>,
     at: usize,
     most: usize,
     calls: Calls,
 }
 
-impl Model for PlainSource {
+impl Model for MemSource {
     ghost Value = { SourceState };
 
     ghost view = { λ s. record { bytes = drop s.at s.bytes.items; most = s.most; calls = s.calls.left; faults = s.calls.faults } };
@@ -62,12 +62,12 @@ impl Model for PlainSource {
     ghost invariant = { λ s. (s.at ≤ length s.bytes.items) × (0 < s.most) };
 }
 
-impl PlainSource {
+impl MemSource {
     /// A source of these bytes, of which each read gives as many as fit.
     pub fn make(bytes: Vec<u8>) -> Self
         ensures { result ≡ record { bytes = bytes.items; most = 2 ^ 64 - 1; calls = None; faults = 0 } }
     {
-        PlainSource::in_pieces(bytes, usize::MAX)
+        MemSource::in_pieces(bytes, usize::MAX)
     }
 
     /// A source of these bytes, of which each read gives at most so many.
@@ -75,7 +75,7 @@ impl PlainSource {
         requires { 0 < most }
         ensures { result ≡ record { bytes = bytes.items; most = most; calls = None; faults = 0 } }
     {
-        PlainSource {
+        MemSource {
             bytes,
             at: 0,
             most,
@@ -95,7 +95,7 @@ impl PlainSource {
     }
 }
 
-impl Source for PlainSource {
+impl Source for MemSource {
     ghost left = { λ s. Some s.bytes };
 
     ghost faults = { λ s. s.faults };
@@ -118,13 +118,13 @@ impl Source for PlainSource {
 
 /// Takes bytes into memory. A write for which there is no memory fails.
 #[derive(Drop)]
-pub struct PlainSink {
+pub struct MemSink {
     bytes: Vec<u8>,
     most: usize,
     calls: Calls,
 }
 
-impl Model for PlainSink {
+impl Model for MemSink {
     ghost Value = { SinkState };
 
     ghost view = { λ s. record { bytes = s.bytes.items; most = s.most; calls = s.calls.left; faults = s.calls.faults } };
@@ -132,12 +132,12 @@ impl Model for PlainSink {
     ghost invariant = { λ s. 0 < s.most };
 }
 
-impl PlainSink {
+impl MemSink {
     /// A sink that took nothing yet, and of which each write takes the whole piece.
     pub fn make(alloc: Global) -> Self
         ensures { result ≡ record { bytes = []; most = 2 ^ 64 - 1; calls = None; faults = 0 } }
     {
-        PlainSink::in_pieces(alloc, usize::MAX)
+        MemSink::in_pieces(alloc, usize::MAX)
     }
 
     /// A sink that took nothing yet, and of which each write takes at most so many bytes.
@@ -145,7 +145,7 @@ impl PlainSink {
         requires { 0 < most }
         ensures { result ≡ record { bytes = []; most = most; calls = None; faults = 0 } }
     {
-        PlainSink {
+        MemSink {
             bytes: Vec::new(alloc),
             most,
             calls: Calls {
@@ -171,7 +171,7 @@ impl PlainSink {
     }
 }
 
-impl Sink for PlainSink {
+impl Sink for MemSink {
     ghost taken = { λ s. Some s.bytes };
 
     ghost faults = { λ s. s.faults };
