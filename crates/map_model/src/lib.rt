@@ -22,18 +22,3 @@ pub use tenures::{
     finish_write_is_between, finish_write_stands, nothing_stands, publish_move_stands,
     removal_stands, start_append_stands, start_write_is_quiet, start_write_stands,
 };
-
-/// The kind of a block's cell: what a client may do with the block.
-#[derive(Clone, Copy, Debug, PartialEq, Eq)]
-pub enum CellKind {
-    /// No block of this id is known.
-    Absent,
-    /// A whole replica, which can be read, appended to and deleted.
-    Final,
-    /// A writer is open. What it is based on can be read.
-    Growing,
-    /// A finish or a deletion failed: one of two values, until the block is deleted or the pool opened again.
-    Unsure,
-    /// Files of a write that was given up wait to be deleted.
-    Waiting,
-}
