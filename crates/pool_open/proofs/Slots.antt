@@ -143,7 +143,7 @@ listed_left (x ∷ xs) ys v f (inl here) = inl here
 listed_left (x ∷ xs) ys v f (inr later) = inr (listed_left xs ys v f later)
 
 abbrev held_metas : ℕ → List ℕ → List Leftover
-held_metas stamp metas = map (λ meta. held_file stamp 0 (WritingMeta Meta)) metas
+held_metas stamp metas = map (λ meta. held_file stamp 0 (WritingMeta meta)) metas
 
 module _ (P : Leftover → Type 0) (stamp : ℕ) where
   each_metas : (metas : List ℕ) → ((found : ℕ) → Contains metas found → P (held_file stamp 0 (WritingMeta found))) → Each P (held_metas stamp metas)

@@ -1,5 +1,5 @@
 -- What the start of a read lends.
-use Rattle.std.proofs.Common.{◌≡◌, ◌≤◌, ◌<◌, inl, inr, ◌^◌, ℕ, Bool, true, false, if◌then◌else◌, List, length, Option, None, Some, refl, sym, ◌∙◌, ap, subst, IsSome, IsTrue, IfSome, IfNone, option_map}
+use Rattle.std.proofs.Common.{◌≡◌, ◌≤◌, ◌<◌, inl, inr, ◌^◌, ℕ, Bool, true, false, if◌then◌else◌, List, length, Option, None, Some, refl, sym, ◌∙◌, ap, subst, arith, IsSome, IsTrue, IfSome, IfNone, option_map}
 use Rattle.disk_model.specs.Worlds.{World}
 use Rattle.disk_model.specs.Files.{Files}
 use Rattle.disk_model.specs.Told.{IsWorldOf, CanLeave, PicksOne, StandsBeforeOrAfter, NoDraftAt}
