@@ -88,10 +88,10 @@ def stored(directory, lines=(WRITE,)):
 
 
 def try_lock(path, kind=fcntl.LOCK_EX):
-    """A file with the lock that an HDFS DataNode takes, or None where another process has it."""
+    """A file with the lock that a run takes, or None where another process has it."""
     file = open(path, "r+b")
     try:
-        fcntl.lockf(file, kind | fcntl.LOCK_NB)
+        fcntl.flock(file, kind | fcntl.LOCK_NB)
     except OSError:
         file.close()
         return None

@@ -10,7 +10,7 @@ ghost use Rattle.disk_model.specs.Names.{IsBelow, IsInOrder};
 ghost use Rattle.disk_model.specs.Causes.{Rose};
 ghost use Rattle.disk_model.specs.Untold.{untold_is_disk, untold_stands_within, untold_leaves_nothing};
 
-use crate::open_directory::file_names;
+use crate::listing::file_names;
 use crate::os_files::{OsDraft, OsReader, OsSealed};
 use crate::volume_locks::VolumeLocks;
 use crate::{durable, kinds};
@@ -23,9 +23,6 @@ use std::sync::Arc;
 /// The longest path of a call, in bytes.
 const LONGEST_PATH: usize = 96;
 
-/// How many bytes of a directory's names are read at once.
-const LISTING_BYTES: usize = 32768;
-
 /// The disks of one pool.
 #[derive(Drop)]
 pub struct OsDisks {
@@ -34,7 +31,6 @@ pub struct OsDisks {
     roots: Vec<String>,
     path: String,
     other: String,
-    listing: Vec<u8>,
     next_number: u64,
     faults: u64,
     absences: u64,
@@ -140,8 +136,6 @@ impl OsDisks {
         let roots = pool_roots(alloc, pool, dirs)?;
         let path = path_buffer(alloc, roots.as_slice())?;
         let other = path_buffer(alloc, roots.as_slice())?;
-        let mut listing = Vec::new(alloc);
-        listing.resize(LISTING_BYTES, 0)?;
         let is_unmade = !(locks.are_held() && make_all(&rt, roots.as_slice(), dirs));
         Ok(OsDisks {
             rt,
@@ -149,7 +143,6 @@ impl OsDisks {
             roots,
             path,
             other,
-            listing,
             next_number: 0,
             faults: 0,
             absences: 0,
@@ -221,8 +214,7 @@ impl PoolDisks for OsDisks {
         if is_unmade {
             return Err(self.fail_disk());
         }
-        let (scratch, buffer) = (&mut self.other, self.listing.as_mut_slice());
-        match file_names(&self.rt, alloc, self.path.as_str(), below, scratch, buffer) {
+        match file_names(&self.rt, alloc, self.path.as_str(), below) {
             Ok(names) => Ok(in_order(alloc, names)?),
             Err(error) if error.kind() == ErrorKind::OutOfMemory => Err(DiskError::Memory),
             Err(_) => Err(self.fail_disk()),

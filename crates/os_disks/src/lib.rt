@@ -5,7 +5,7 @@
 mod directories;
 mod durable;
 mod kinds;
-mod open_directory;
+mod listing;
 mod os_files;
 mod standard_streams;
 mod volume_locks;

@@ -1,15 +1,13 @@
 //! One process a volume: the locks of the volumes' directories.
 //!
-//! A volume's lock is the one that an HDFS DataNode holds on its directory: an exclusive record lock on the whole of
-//! `in_use.lock`. HDFS takes it for the process (`F_SETLK`), the kit for the open file (`F_OFD_SETLK`). Of the system it
-//! is trusted that two such locks of either kind never stand together, but for two of one process's, and that this one
-//! stands until the file that was opened here is closed, whatever else is opened and closed.
+//! A volume's lock is an exclusive lock on the whole of `in_use.lock`, the file that an HDFS DataNode locks, by std's
+//! `File::try_lock` (`flock`). Of the system it is trusted that two such locks never stand together, and that this one
+//! stands until the file that was opened here is closed. HDFS takes a lock of another kind (a record lock, `F_SETLK`),
+//! and the two kinds don't see each other: the lock keeps further runs away, and no DataNode.
 ghost use Rattle.std.specs.Prelude.{◌≡◌, ◌↔◌, ◌≤◌, IfOk, IsTrue, length};
 ghost use Rattle.std.specs.Arc.{arc_value};
 
-use crate::open_directory::OpenDirectory;
 use crate::{durable, kinds};
-use os::RangeLock;
 use std::alloc::AllocError;
 use std::fs::{File, OpenOptions};
 use std::io;
@@ -22,7 +20,7 @@ use std::sync::Arc;
 pub struct VolumeLocks {
     locked: Vec<File>,
     volumes: usize,
-    standing_in: Vec<OpenDirectory>,
+    standing_in: Vec<File>,
 }
 
 /// Opens a lock's file, which is made where it is absent. Nothing is read from it or written to it.
@@ -42,10 +40,7 @@ fn lock_volume(rt: &HostRuntime, dir: &str) -> io::Result<File> {
     durable::make_directory(rt, dir)?;
     let path = format!(in rt.alloc(); "{dir}/in_use.lock")?;
     let file = open_lock_file(rt, path.as_str())?;
-    // Java's tryLock() asks for all bytes of a file, of which there are at most so many
-    if os::try_lock_range(file.as_raw_fd(), RangeLock::Exclusive, 0, i64::MAX as u64) != 0 {
-        return Err(Error::from_raw_os_error(os::errno()));
-    }
+    file.try_lock()?;
     // a DataNode that ends in order removes its file, perhaps since it was opened here
     match kinds::find_file(rt, path.as_str())? {
         Some(found) => kinds::is_the_one(&file, &found)?,
@@ -56,10 +51,10 @@ fn lock_volume(rt: &HostRuntime, dir: &str) -> io::Result<File> {
 
 /// Opens directories at the numbers of standard streams that are closed, so that no file of a block gets such a number:
 /// replies would be written into it. To write to a directory fails, and so does to read from it.
-fn fill_standard_numbers(standing_in: &mut Vec<OpenDirectory>) -> io::Result<()> {
+fn fill_standard_numbers(rt: &HostRuntime, standing_in: &mut Vec<File>) -> io::Result<()> {
     for _ in 0..3 {
-        let open = OpenDirectory::open("/")?;
-        if open.number() > 2 {
+        let open = File::open(rt, "/")?;
+        if open.as_raw_fd() > 2 {
             break;
         }
         standing_in.push(open)?;
@@ -83,7 +78,7 @@ impl VolumeLocks {
     {
         let mut locked = Vec::new(rt.alloc());
         let mut standing_in = Vec::new(rt.alloc());
-        let taken = match fill_standard_numbers(&mut standing_in) {
+        let taken = match fill_standard_numbers(rt, &mut standing_in) {
             Ok(()) => lock_each(rt, dirs, &mut locked),
             failed => failed,
         };

@@ -141,7 +141,7 @@ lends {told' = told'} {told'' = told''} {cells = cells} stands stands' id valid 
 pub looked_for_two : {R : Type 0} (number : R → ℕ) (first mid last : Mark) → IsLater first mid → IsLater mid last → (lent lent' : Option R) →
     IfNone lent (Rose first.absences mid.absences) → IfSome lent (λ reader. GivenBetween first.next_number mid.next_number (number reader)) →
     IfNone lent' (Rose mid.absences last.absences) → IfSome lent' (λ reader. GivenBetween mid.next_number last.next_number (number reader)) → LooksForTwo first last
-looked_for_two number first mid last one two None lent' absent given absent' given' = inl (omega (arith, absent, two.absences))
-looked_for_two number first mid last one two (Some block) None absent given absent' given' = inl (omega (arith, absent', one.absences))
-looked_for_two number first mid last one two (Some block) (Some meta) absent given absent' given' =
+looked_for_two number first mid last one two None lent' lost given lost' given' = inl (omega (arith, lost, two.absences))
+looked_for_two number first mid last one two (Some block) None lost given lost' given' = inl (omega (arith, lost', one.absences))
+looked_for_two number first mid last one two (Some block) (Some meta) lost given lost' given' =
     inr (omega (arith, given.since, given.before, given'.since, given'.before))
