@@ -2,13 +2,12 @@
 use crate::kinds::has_way;
 use std::alloc::Global;
 use std::fs;
-use std::fs::Files;
 use std::io::{ErrorKind, Result};
 
 /// The names of the files of a directory, in no order. Those of all else, as directories and links, are passed over. An
 /// absent directory has none. Neither it nor a directory that its path names behind its first `below` bytes is a link.
-pub fn file_names<R: Files>(
-    rt: &R,
+pub fn file_names(
+    rt: &HostRuntime,
     alloc: Global,
     dir: &str,
     below: usize,
