@@ -1,9 +1,10 @@
 -- What the answer to a line shows.
-use Rattle.std.proofs.Common.{◌≡◌, true, false, ℕ, zero, suc, ◌≤◌, ◌⊎◌, inl, inr, List, [], ◌∷◌, refl, ap, sym, ◌∙◌, subst, arith, Option, Some, None, Result, Ok, Err}
+use Rattle.std.proofs.Common.{◌≡◌, true, false, ℕ, ◌⊎◌, inl, inr, List, [], ◌∷◌, refl, ap, sym, ◌∙◌, subst, arith, Option, Result, Ok, Err}
 use Rattle.std.proofs.lemmas.List.{append-nil}
 use Rattle.std.specs.Io.KnownBytes.{Appends}
 use Rattle.disk_model.specs.Worlds.{World}
 use Rattle.line_io.specs.Written.{AppendsFront}
+use Rattle.line_io.proofs.Appending.{appends_nothing}
 use Rattle.script_lang.specs.declared.LineFault.{LineFault}
 use Rattle.script_lang.specs.declared.LineFault.TheVariants.{Bad, Memory}
 use Rattle.script_lang.specs.declared.Line.{Line}
@@ -11,7 +12,7 @@ use Rattle.script_lang.specs.declared.Line.TheVariants.{Blank, Reopen}
 use Rattle.script_lang.specs.declared.reply.Reply.{Reply}
 use Rattle.script_lang.specs.Reply.{reply_line}
 use Rattle.script_lang.specs.Script.{line_of}
-use Rattle.dn_play.specs.declared.ending.Ending.TheVariants.{SinkFault, NoMemory, Outside, Later}
+use Rattle.run_end.specs.declared.ending.Ending.TheVariants.{SinkFault, NoMemory, Outside, Later}
 use Rattle.dn_play.specs.State.{RunState, Turn, last_state}
 use Rattle.dn_play.specs.Commands.{Trust}
 use Rattle.dn_play.specs.Lines.{Follows}
@@ -23,15 +24,10 @@ use Rattle.disk_model.specs.Causes.{Rose}
 use Rattle.disk_model.specs.Marks.{Mark, IsLater}
 use Rattle.pool_open.specs.declared.opening.ReopenFault.{ReopenFault}
 use Rattle.pool_open.specs.declared.opening.ReopenFault.TheVariants.{Failed, Memory as NoRoom, Later as TwoMetas}
-use Rattle.dn_play.specs.declared.ending.Ending.{Ending}
+use Rattle.run_end.specs.declared.ending.Ending.{Ending}
 use Rattle.map_model.specs.Cells.{Cells}
 use Rattle.dn_play.specs.Images.{AllowedSince, StaysCrashSafe, LinesCrashSafe}
-use Rattle.dn_play.specs.Answer.{Answered, Unanswered, FirstOfLine, SaysLater, SaysReopen, SaysUpTo, EndsAt, reopen_ending}
-
--- where nothing is written
-pub appends_nothing : (taken : Option (List ℕ)) → Appends taken taken []
-appends_nothing None = tt
-appends_nothing (Some xs) = sym (append-nil xs)
+use Rattle.dn_play.specs.Answer.{Answered, Unanswered, FirstOfLine, SaysLater, reopen_ending}
 
 -- a line that is no blank
 pub not_blank : (line : Line) → (line ≡ Blank → ⊥) → is_blank line ≡ false
@@ -53,18 +49,6 @@ told_ok text line h = elim h [ inl e ↦ cc | inr e ↦ sym e ]
 
 pub told_bad : (text : List ℕ) (fault : LineFault) (column : ℕ) → fault ≡ Bad column → (◌≡◌ {A = Result Line LineFault} (Err fault) (Err Memory)) ⊎ (Err fault ≡ line_of text) → line_of text ≡ Err (Bad column)
 told_bad text fault column is h = elim h [ inl e ↦ absurd cc | inr e ↦ sym e ∙ ap Err is ]
-
--- the counts stay
-pub mark_stays : (mark : Mark) → IsLater mark mark
-mark_stays mark = record { faults = omega arith; absences = omega arith; next_number = omega arith; moment = omega arith }
-
-ends_later : (Reopens : Type 0) (number : ℕ) (mark : Mark) → EndsAt Reopens (Later number) mark mark
-ends_later Reopens zero mark = mark_stays mark
-ends_later Reopens (suc number) mark = refl
-
-says_later : (number : ℕ) (text : List ℕ) → SaysLater text → 1 ≤ number → SaysUpTo number text [] (Later number)
-says_later zero text e some = absurd (omega (arith, some))
-says_later (suc number) text e some = (refl, refl, e)
 
 -- where no line was carried out
 pub no_lines : {before : Mark} {state : RunState} {Sound : Cells → Type 0} {past : ℕ → Files → Type 0} → AllowedSince past before.moment state [] → LinesCrashSafe before state [] Sound Sound past past
@@ -99,14 +83,14 @@ module _ {Faulty : ℕ → ℕ → Type 0} {told : Option (List World)} {state :
   }
 
   -- a line that isn't carried out yet
-  pub unanswered_later : (taken : Option (List ℕ)) (number : ℕ) (text : List ℕ) → SaysLater text → 1 ≤ number → Unanswered Faulty told state before before taken taken number text (Later number) StandsFor Sound Sound past past
-  unanswered_later taken number text e some = record {
+  pub unanswered_later : (taken : Option (List ℕ)) (number : ℕ) (text : List ℕ) → SaysLater text → Unanswered Faulty told state before before taken taken number text (Later number) StandsFor Sound Sound past past
+  unanswered_later taken number text e = record {
     turns = [];
     shown = [];
-    says = says_later number text e some;
+    says = (refl, refl, e);
     follows = λ trust known. tt;
     stands = stands;
-    at_mark = ends_later (SaysReopen text []) number before;
+    at_mark = refl;
     crash = no_lines now;
     shows = refl;
     written = appends_nothing taken;

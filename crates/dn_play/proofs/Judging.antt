@@ -6,57 +6,43 @@ use Rattle.map_model.specs.Sound.{IsSound}
 use Rattle.disk_model.specs.Told.{CanLeave}
 use Rattle.disk_model.specs.Marks.{Mark}
 use Rattle.dn_play.proofs.Opening.{alike_start, only_start}
-use Rattle.dn_play.specs.declared.ending.Ending.{Ending}
-use Rattle.dn_play.specs.declared.ending.Ending.TheVariants.{Complete, Usage, SourceFault, SinkFault, NoMemory, Outside, OpenFault, Limit, Later}
-use Rattle.dn_play.specs.Session.{Declines, status_of, status_at}
+use Rattle.run_end.specs.declared.ending.Ending.{Ending}
+use Rattle.run_end.specs.declared.ending.Ending.TheVariants.{Usage, NoMemory, NotCarriedOut}
+use Rattle.run_end.specs.Ending.{status_of}
+use Rattle.run_end.specs.Closing.{Declines}
+use Rattle.run_end.proofs.LastLine.{closed_for_memory}
+use Rattle.dn_play.specs.Session.{status_at}
 use Rattle.dn_play.specs.Script.{script_of}
-use Rattle.dn_play.specs.Answer.{Closed}
 use Rattle.dn_play.specs.Outside.{IsJudged}
 use Rattle.dn_play.specs.Play.{Runs}
-use Rattle.dn_play.proofs.Answering.{appends_nothing}
-use Rattle.dn_play.proofs.LastLine.{run_of, declined, declined_without}
+use Rattle.line_io.proofs.Appending.{appends_nothing}
+use Rattle.dn_play.proofs.LastLine.{run_of}
 
 -- words that fit and name one pool and volume are refused for want of memory alone
 pub judged_memory : (fit later : Bool) (ending : Ending) → IsJudged fit later (Some ending) → fit ≡ true → later ≡ false → ending ≡ NoMemory
-judged_memory fit later Complete j fits one = absurd j
 judged_memory fit later Usage j fits one = absurd (let x : true ≡ false = sym fits ∙ j in cc x)
-judged_memory fit later SourceFault j fits one = absurd j
-judged_memory fit later SinkFault j fits one = absurd j
 judged_memory fit later NoMemory j fits one = refl
-judged_memory fit later (Outside line column) j fits one = absurd j
-judged_memory fit later OpenFault j fits one = absurd j
-judged_memory fit later (Limit line) j fits one = absurd j
-judged_memory fit later (Later line) j fits one = absurd (let x : false ≡ true = sym one ∙ j.2 in cc x)
+judged_memory fit later NotCarriedOut j fits one = absurd (let x : false ≡ true = sym one ∙ j.1 in cc x)
+judged_memory fit later ending j fits one = absurd j
 
-pub judged_usage : (fit later : Bool) (ending : Ending) (taken taken' : Option (List ℕ)) (status : ℕ) → IsJudged fit later (Some ending) → fit ≡ false → Closed ending taken taken' status → Declines Usage taken taken' status
-judged_usage fit later Complete taken taken' status j unfit k = absurd j
-judged_usage fit later Usage taken taken' status j unfit k = declined Usage taken taken' status (λ e. cc e) k
-judged_usage fit later SourceFault taken taken' status j unfit k = absurd j
-judged_usage fit later SinkFault taken taken' status j unfit k = absurd j
-judged_usage fit later NoMemory taken taken' status j unfit k = declined_without Usage taken taken' status k
-judged_usage fit later (Outside line column) taken taken' status j unfit k = absurd j
-judged_usage fit later OpenFault taken taken' status j unfit k = absurd j
-judged_usage fit later (Limit line) taken taken' status j unfit k = absurd j
-judged_usage fit later (Later line) taken taken' status j unfit k = absurd (let x : false ≡ true = sym unfit ∙ j.1 in cc x)
+pub judged_usage : (fit later : Bool) (ending : Ending) (taken taken' : Option (List ℕ)) (status : ℕ) → IsJudged fit later (Some ending) → fit ≡ false → Declines ending taken taken' status → Declines Usage taken taken' status
+judged_usage fit later Usage taken taken' status j unfit k = k
+judged_usage fit later NoMemory taken taken' status j unfit k = closed_for_memory Usage taken taken' [] status (λ e. cc e) (λ e. cc e) k
+judged_usage fit later NotCarriedOut taken taken' status j unfit k = absurd (let x : false ≡ true = sym unfit ∙ j.0 in cc x)
+judged_usage fit later ending taken taken' status j unfit k = absurd j
 
-pub judged_later : (fit later : Bool) (ending : Ending) (taken taken' : Option (List ℕ)) (status : ℕ) → IsJudged fit later (Some ending) → fit ≡ true → Closed ending taken taken' status → Declines (Later 0) taken taken' status
-judged_later fit later Complete taken taken' status j fits k = absurd j
+pub judged_later : (fit later : Bool) (ending : Ending) (taken taken' : Option (List ℕ)) (status : ℕ) → IsJudged fit later (Some ending) → fit ≡ true → Declines ending taken taken' status → Declines NotCarriedOut taken taken' status
 judged_later fit later Usage taken taken' status j fits k = absurd (let x : true ≡ false = sym fits ∙ j in cc x)
-judged_later fit later SourceFault taken taken' status j fits k = absurd j
-judged_later fit later SinkFault taken taken' status j fits k = absurd j
-judged_later fit later NoMemory taken taken' status j fits k = declined_without (Later 0) taken taken' status k
-judged_later fit later (Outside line column) taken taken' status j fits k = absurd j
-judged_later fit later OpenFault taken taken' status j fits k = absurd j
-judged_later fit later (Limit line) taken taken' status j fits k = absurd j
-judged_later fit later (Later line) taken taken' status j fits k =
-    declined (Later 0) taken taken' status (λ e. cc e) (subst (λ n. Closed (Later n) taken taken' status) j.0 k)
+judged_later fit later NoMemory taken taken' status j fits k = closed_for_memory NotCarriedOut taken taken' [] status (λ e. cc e) (λ e. cc e) k
+judged_later fit later NotCarriedOut taken taken' status j fits k = k
+judged_later fit later ending taken taken' status j fits k = absurd j
 
 -- the endings that the words never have
 pub never_judged : (fit later : Bool) (ending other : Ending) → IsJudged fit later (Some ending) → ending ≡ other → IsJudged fit later (Some other)
 never_judged fit later ending other j e = subst (λ (x : Ending). IsJudged fit later (Some x)) e j
 
 -- nothing was carried out for want of memory
-pub run_without : (Faulty : ℕ → ℕ → Type 0) (since : ℕ → Files → Type 0) (mark : Mark) (told : Option (List World)) (input taken taken' : Option (List ℕ)) (ending : Ending) (status : ℕ) → ending ≡ NoMemory → ((image : Files) → since mark.moment image → CanLeave told image) → Closed ending taken taken' status →
+pub run_without : (Faulty : ℕ → ℕ → Type 0) (since : ℕ → Files → Type 0) (mark : Mark) (told : Option (List World)) (input taken taken' : Option (List ℕ)) (ending : Ending) (status : ℕ) → ending ≡ NoMemory → ((image : Files) → since mark.moment image → CanLeave told image) → Declines ending taken taken' status →
     Runs Faulty since (CanLeave told) (record { entry = mark; exit = mark; told = told; input = input }) taken taken' status
 run_without Faulty since mark told input taken taken' ending status is only k = run_of Faulty since (CanLeave told) _ taken taken taken' NoMemory status
     (record {
@@ -72,7 +58,7 @@ run_without Faulty since mark told input taken taken' ending status is only k = 
       });
       written = appends_nothing taken;
     })
-    (subst (λ (x : Ending). Closed x taken taken' status) is k)
+    (subst (λ (x : Ending). Declines x taken taken' status) is k)
 
 -- so the status is 4, unless the sink fails
 pub memory_stops : (A B C : Type 0) (ending : Ending) (input : Option (List ℕ)) (status : ℕ) → ending ≡ NoMemory → (status ≡ status_of ending) ⊎ (status ≡ 3) ⊎ (status ≡ 4) → (status ≡ 3 → B) →

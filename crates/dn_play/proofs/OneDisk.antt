@@ -9,7 +9,7 @@ use Rattle.std.specs.Option.{option_map_or}
 use Rattle.script_lang.specs.NodeWords.{NodeSaid, node_of, node_name_of, pools_of, are_node_pools, ◌>>=◌}
 use Rattle.script_lang.specs.Volumes.{volumes_of, each_volume_of, node_volumes, is_count, are_apart}
 use Rattle.script_lang.specs.declared.volume_word.VolumeWord.{VolumeWord}
-use Rattle.dn_play.specs.declared.ending.Ending.{Ending}
+use Rattle.run_end.specs.declared.ending.Ending.{Ending}
 use Rattle.dn_play.specs.Outside.{fit_disks, words_fit, names_several, words_are_later, IsJudged}
 
 some_pools : (word : List ℕ) (names : List (List ℕ)) → pools_of word ≡ Some names → 1 ≤ length names

@@ -25,11 +25,12 @@ use Rattle.pool_state.specs.Stands.{PoolStands}
 use Rattle.pair_draft.specs.Writers.{Writer}
 use Rattle.pool_open.specs.declared.opening.OpenFault.{OpenFault}
 use Rattle.pool_open.specs.Outcome.{HoldsImage, HasTwoMetas, HasSoundFiles, ReadsAsOne, IsOpened, Opens, fault_disks}
-use Rattle.dn_play.specs.declared.ending.Ending.{Ending}
-use Rattle.dn_play.specs.declared.ending.Ending.TheVariants.{OpenFault as OpenFailed, Later}
+use Rattle.run_end.specs.declared.ending.Ending.{Ending}
+use Rattle.run_end.specs.declared.ending.Ending.TheVariants.{OpenFault as OpenFailed, NotCarriedOut}
+use Rattle.run_end.specs.Ending.{status_of}
+use Rattle.run_end.specs.Closing.{Writes}
 use Rattle.dn_play.specs.State.{Numbers, RunState}
 use Rattle.dn_play.specs.Standing.{Standing, OpenWriter, NotGrowing, LeavesAllowed}
-use Rattle.dn_play.specs.Session.{WritesReplies}
 use Rattle.dn_play.specs.Answer.{Played, IsOfLines}
 use Rattle.dn_play.specs.Play.{Course, IsBeforeOpened, RunsPool}
 use Rattle.dn_play.proofs.Progress.{known_on}
@@ -133,8 +134,8 @@ module _ {D S T R : Type 0} (g : Ghosts D S T R) (Faulty : ℕ → ℕ → Type 
 
   -- nothing was carried out
   pub stops_so : (out known : D) (fault : OpenFault D) (input taken : Option (List ℕ)) (ending : Ending) → out ≡ known → fault_disks fault ≡ known →
-      GoesOn g before (fault_disks fault) → IsBeforeOpened ending → WritesReplies ending taken taken [] →
-      (ending ≡ OpenFailed → Rose (g.faults before) (g.faults known)) → (ending ≡ Later 0 → (image : Files) → HoldsImage (g.worlds before) image → HasTwoMetas image) →
+      GoesOn g before (fault_disks fault) → IsBeforeOpened ending → Writes (status_of ending) taken taken [] →
+      (ending ≡ OpenFailed → Rose (g.faults before) (g.faults known)) → (ending ≡ NotCarriedOut → (image : Files) → HoldsImage (g.worlds before) image → HasTwoMetas image) →
       AddsOnly (g.left_since before) (g.left_since (fault_disks fault)) (ReadsAsOne (g.worlds before)) →
       RunsPool Faulty (g.left_since out) (CanLeave (g.worlds out)) (course_between out input) taken taken ending
   stops_so out known fault input taken ending is of_fault on early written open_fault later images =
@@ -162,7 +163,7 @@ module _ {D S T R : Type 0} (g : Ghosts D S T R) (Faulty : ℕ → ℕ → Type 
       Played Faulty (g.worlds mid) (first_of opens.cells opens.metas) (mark_of g mid) (mark_of g after) input taken taken' ending
       (LeavesAllowed (g.worlds after)) (PoolStands (g.worlds mid) volumes entries found matching) SoundNow (g.left_since mid) (g.left_since after) → IsOfLines ending →
       ((image : Files) → HoldsImage (g.worlds before) image → HasTwoMetas image → ⊥) → AddsOnly (g.left_since before) (g.left_since mid) (ReadsAsOne (g.worlds before)) →
-      (ending ≡ Later 0 → (image : Files) → CanLeave (g.worlds after) image → HasTwoMetas image) →
+      (ending ≡ NotCarriedOut → (image : Files) → CanLeave (g.worlds after) image → HasTwoMetas image) →
       RunsPool Faulty (g.left_since out) (CanLeave (g.worlds out)) (course_between out input) taken taken' ending
   runs_so mid after out {volumes} {entries} {found} {SoundNow} input taken taken' ending is went opens only_mid p of_lines one_meta meanwhile later =
       let made : (start : Files) → HoldsImage (g.worlds before) start → MakesCells (block_files start) opens.cells = λ start holds.

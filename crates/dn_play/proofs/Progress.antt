@@ -1,10 +1,10 @@
 -- How far a session has come, and how a line takes it on.
-use Rattle.std.proofs.Common.{◌≡◌, inl, inr, false, ℕ, zero, ◌+◌, ◌≤◌, suc, List, [], ◌∷◌, ◌++◌, length, take, refl, ap, sym, ◌∙◌, subst, arith, Option, Some, None, IfSome, IsSome}
+use Rattle.std.proofs.Common.{◌≡◌, inl, inr, false, ℕ, ◌+◌, ◌≤◌, List, [], ◌∷◌, ◌++◌, length, refl, ap, sym, ◌∙◌, subst, arith, Option, Some, None, IfSome, IsSome}
 use Rattle.std.proofs.lemmas.List.{append-nil, append_assoc}
 use Rattle.std.specs.Io.KnownBytes.{Appends}
 use Rattle.disk_model.specs.Worlds.{World}
 use Rattle.disk_model.specs.Causes.{Rose}
-use Rattle.line_io.specs.Written.{AppendsFront}
+use Rattle.line_io.proofs.Appending.{appends_nothing, appends_append}
 use Rattle.line_io.specs.Lines.{terminated_lines, TakesLine, FirstPassesLimit, OfUnread}
 use Rattle.line_io.specs.declared.lines.ReadFault.{ReadFault}
 use Rattle.line_io.specs.declared.lines.ReadFault.TheVariants.{Source, Limit as LineLimit, Memory}
@@ -13,22 +13,25 @@ use Rattle.script_lang.specs.declared.Line.TheVariants.{Reopen}
 use Rattle.script_lang.specs.declared.reply.Reply.{Reply}
 use Rattle.script_lang.specs.Reply.{reply_line}
 use Rattle.script_lang.specs.Script.{line_of}
-use Rattle.dn_play.specs.declared.ending.Ending.{Ending}
-use Rattle.dn_play.specs.declared.ending.Ending.TheVariants.{Complete, Usage, SourceFault, SinkFault, NoMemory, Outside, OpenFault, Limit, Later}
+use Rattle.run_end.specs.declared.ending.Ending.{Ending}
+use Rattle.run_end.specs.declared.ending.Ending.TheVariants.{Complete, SourceFault, SinkFault, NoMemory, Outside, OpenFault, Later, NotCarriedOut}
+use Rattle.run_end.specs.Ending.{status_of, ending_at}
+use Rattle.run_end.specs.Closing.{Writes}
+use Rattle.run_end.proofs.LastLine.{writes_then}
 use Rattle.dn_play.specs.State.{RunState, Turn, turn_lines, turn_replies, last_state, last_mark}
 use Rattle.dn_play.specs.Commands.{Trust, any_disks, telling_disks, sound_disks}
 use Rattle.dn_play.specs.Lines.{Follows}
 use Rattle.dn_play.specs.Standing.{IsKnown}
 use Rattle.dn_play.specs.Script.{Script, AtEnd, AtOutside, AtLimit, AtLater, stops, script_after, script_from, script_of, prepend, is_blank, is_carried, goes_on}
-use Rattle.dn_play.specs.Session.{Shows, WritesReplies, text_of, Reads, FirstCommands, AllCommands}
-use Rattle.dn_play.specs.Answer.{Answered, Unanswered, FirstOfLine, SaysUpTo, SaysReopen, NextReopens, EndsAt, Played, IsOfLines, ending_at}
+use Rattle.dn_play.specs.Session.{Shows, text_of, Reads, FirstCommands, AllCommands}
+use Rattle.dn_play.specs.Answer.{Answered, Unanswered, FirstOfLine, SaysUpTo, SaysReopen, NextReopens, EndsAt, Played, IsOfLines}
 use Rattle.disk_model.specs.Files.{Files}
 use Rattle.disk_model.specs.Marks.{Mark}
 use Rattle.map_model.specs.Cells.{Cells}
 use Rattle.dn_play.specs.Images.{AllowedSince, LinesCrashSafe}
 use Rattle.dn_play.proofs.Crashes.{crash_on}
 use Rattle.dn_play.specs.Standing.{AnyCells}
-use Rattle.dn_play.proofs.Answering.{appends_nothing, no_lines, lines_less}
+use Rattle.dn_play.proofs.Answering.{no_lines, lines_less}
 
 -- the lines so far, what is written, and that these lines and the script of what is unread are the whole script
 pub record Progress (Faulty : ℕ → ℕ → Type 0) (told : Option (List World)) (state : RunState) (before now : Mark) (input left : Option (List ℕ)) (pending : List ℕ) (number count : ℕ)
@@ -73,26 +76,9 @@ text_of-append : (replies more : List Reply) → text_of (replies ++ more) ≡ t
 text_of-append [] more = refl
 text_of-append (reply ∷ replies) more = ap (λ p. reply_line reply ++ p) (text_of-append replies more) ∙ sym (append_assoc (reply_line reply) (text_of replies) (text_of more))
 
--- one text after another
-pub appends_append : (old mid new : Option (List ℕ)) (xs ys : List ℕ) → Appends old mid xs → Appends mid new ys → Appends old new (xs ++ ys)
-appends_append None mid new xs ys h k = tt
-appends_append (Some bs) None new xs ys h k = absurd h
-appends_append (Some bs) (Some cs) None xs ys h k = absurd k
-appends_append (Some bs) (Some cs) (Some ds) xs ys h k = k ∙ ap (λ p. p ++ ys) h ∙ append_assoc bs xs ys
-
+-- the lines of replies behind those of others
 appends_replies : (old mid new : Option (List ℕ)) (replies more : List Reply) → Appends old mid (text_of replies) → Appends mid new (text_of more) → Appends old new (text_of (replies ++ more))
 appends_replies old mid new replies more h k = subst (Appends old new) (sym (text_of-append replies more)) (appends_append old mid new (text_of replies) (text_of more) h k)
-
-pub take_behind : (xs ys : List ℕ) (n : ℕ) → take (length xs + n) (xs ++ ys) ≡ xs ++ take n ys
-take_behind [] ys n = ap (λ k. take k ys) (let e : 0 + n ≡ n = omega arith in e)
-take_behind (x ∷ xs) ys n = ap (λ k. take k (x ∷ xs ++ ys)) (let e : length (x ∷ xs) + n ≡ suc (length xs + n) = omega arith in e) ∙ ap (λ p. x ∷ p) (take_behind xs ys n)
-
-front_replies : (old mid new : Option (List ℕ)) (replies more : List Reply) → Appends old mid (text_of replies) → AppendsFront mid new (text_of more) → AppendsFront old new (text_of (replies ++ more))
-front_replies old mid new replies more h k = (
-  length (text_of replies) + k.0,
-  subst (Appends old new) (sym (take_behind (text_of replies) (text_of more) k.0) ∙ ap (take (length (text_of replies) + k.0)) (sym (text_of-append replies more)))
-      (appends_append old mid new (text_of replies) (take k.0 (text_of more)) h k.1),
-)
 
 -- commands behind commands
 prepend-prepend : (commands others : List Line) (rest : Script) → prepend commands (prepend others rest) ≡ prepend (commands ++ others) rest
@@ -149,32 +135,6 @@ at_end_of : (number count : ℕ) (unread : List ℕ) → unread ≡ [] → scrip
 unfolding script_from
 at_end_of number count unread none = ap (λ p. script_from number count (terminated_lines p)) none
 
--- what such an ending is not
-pub not_complete : (fault : ReadFault) (line : ℕ) (ending : Ending) → ending ≡ ending_at fault line → ending ≡ Complete → ⊥
-not_complete Source line ending e h = cc
-not_complete LineLimit line ending e h = cc
-not_complete Memory line ending e h = cc
-
-pub not_later : (fault : ReadFault) (line : ℕ) (ending : Ending) → ending ≡ ending_at fault line → ending ≡ Later 0 → ⊥
-not_later Source line ending e h = cc
-not_later LineLimit line ending e h = cc
-not_later Memory line ending e h = cc
-
-pub not_sink : (fault : ReadFault) (line : ℕ) (ending : Ending) → ending ≡ ending_at fault line → ending ≡ SinkFault → ⊥
-not_sink Source line ending e h = cc
-not_sink LineLimit line ending e h = cc
-not_sink Memory line ending e h = cc
-
-pub not_usage : (fault : ReadFault) (line : ℕ) (ending : Ending) → ending ≡ ending_at fault line → ending ≡ Usage → ⊥
-not_usage Source line ending e h = cc
-not_usage LineLimit line ending e h = cc
-not_usage Memory line ending e h = cc
-
-pub from_source : (fault : ReadFault) (line : ℕ) (ending : Ending) → ending ≡ ending_at fault line → ending ≡ SourceFault → fault ≡ Source
-from_source Source line ending e h = refl
-from_source LineLimit line ending e h = cc
-from_source Memory line ending e h = cc
-
 first_on : (input left left' : Option (List ℕ)) (pending pending' : List ℕ) (number count count' : ℕ) (text : List ℕ) (commands others : List Line) →
     OfUnread (λ unread rest. script_of unread ≡ prepend commands (script_from number count (terminated_lines rest))) [] input pending left → OfUnread (λ unread rest. TakesLine count unread text count' rest) pending left pending' left' →
     FirstOfLine (number + 1) text others → IfSome input (λ bytes. FirstCommands bytes (commands ++ others))
@@ -199,11 +159,7 @@ reopen_on input left left' pending pending' number count count' text commands ot
 reads_on : (input left left' : Option (List ℕ)) (pending pending' : List ℕ) (number count count' : ℕ) (text : List ℕ) (commands others : List Line) (ending : Ending) →
     OfUnread (λ unread rest. script_of unread ≡ prepend commands (script_from number count (terminated_lines rest))) [] input pending left → OfUnread (λ unread rest. TakesLine count unread text count' rest) pending left pending' left' →
     SaysUpTo (number + 1) text others ending → IfSome input (λ bytes. Reads bytes (commands ++ others) ending)
-reads_on input left left' pending pending' number count count' text commands others Complete h t says = absurd says
-reads_on input left left' pending pending' number count count' text commands others Usage h t says = absurd says
-reads_on input left left' pending pending' number count count' text commands others SourceFault h t says = absurd says
 reads_on input left left' pending pending' number count count' text commands others OpenFault h t says = reopen_on input left left' pending pending' number count count' text commands others h t says
-reads_on input left left' pending pending' number count count' text commands others (Limit line) h t says = absurd says
 reads_on input left left' pending pending' number count count' text commands others SinkFault h t says = first_on input left left' pending pending' number count count' text commands others h t says
 reads_on input left left' pending pending' number count count' text commands others NoMemory h t says = first_on input left left' pending pending' number count count' text commands others h t says
 reads_on input left left' pending pending' number count count' text commands others (Outside line column) h t says =
@@ -211,34 +167,21 @@ reads_on input left left' pending pending' number count count' text commands oth
     (λ u m r e k. e ∙ ap (prepend commands) (script_by_line number count count' m text r k ∙ ap (λ l. script_after (number + 1) l (script_from (number + 1) count' (terminated_lines r))) says.2)
     ∙ ap (λ (c : List Line). record { commands = commands ++ c; stop = AtOutside (number + 1) column }) (sym says.0)
     ∙ ap (λ (n : ℕ). record { commands = commands ++ others; stop = AtOutside n column }) (sym says.1))
-reads_on input left left' pending pending' number count count' text commands others (Later zero) h t says = reopen_on input left left' pending pending' number count count' text commands others h t says
-reads_on input left left' pending pending' number count count' text commands others (Later (suc line)) h t says =
-    unread_both (λ unread rest. script_of unread ≡ prepend commands (script_from number count (terminated_lines rest))) (λ unread rest. TakesLine count unread text count' rest) (λ bytes. AllCommands bytes (commands ++ others) (AtLater (suc line))) pending pending' input left left' h t
+reads_on input left left' pending pending' number count count' text commands others NotCarriedOut h t says = reopen_on input left left' pending pending' number count count' text commands others h t says
+reads_on input left left' pending pending' number count count' text commands others (Later line) h t says =
+    unread_both (λ unread rest. script_of unread ≡ prepend commands (script_from number count (terminated_lines rest))) (λ unread rest. TakesLine count unread text count' rest) (λ bytes. AllCommands bytes (commands ++ others) (AtLater line)) pending pending' input left left' h t
     (λ u m r e k. e ∙ ap (prepend commands) (script_by_line number count count' m text r k ∙ ap (λ l. script_after (number + 1) l (script_from (number + 1) count' (terminated_lines r))) says.2.1 ∙ later_stops (number + 1) says.2.0 (says.2.2, says.2.3) (script_from (number + 1) count' (terminated_lines r)))
     ∙ ap (λ (c : List Line). record { commands = commands ++ c; stop = AtLater (number + 1) }) (sym says.0)
     ∙ ap (λ (n : ℕ). record { commands = commands ++ others; stop = AtLater n }) (sym says.1))
+reads_on input left left' pending pending' number count count' text commands others ending h t says = absurd says
 
 shows_on : (replies more shown : List Reply) (ending : Ending) → Shows more ending shown → Shows (replies ++ more) ending (replies ++ shown)
-shows_on replies more shown Complete h = ap (λ p. replies ++ p) h
-shows_on replies more shown Usage h = ap (λ p. replies ++ p) h
-shows_on replies more shown SourceFault h = ap (λ p. replies ++ p) h
-shows_on replies more shown SinkFault h = ap (λ p. replies ++ p) h
-shows_on replies more shown (Outside line column) h = ap (λ p. replies ++ p) h
-shows_on replies more shown OpenFault h = ap (λ p. replies ++ p) h
-shows_on replies more shown (Limit line) h = ap (λ p. replies ++ p) h
-shows_on replies more shown (Later line) h = ap (λ p. replies ++ p) h
 shows_on replies more shown NoMemory h = (h.0, ap (λ p. replies ++ p) h.1 ∙ sym (append_assoc replies shown h.0), h.2)
+shows_on replies more shown ending h = ap (λ p. replies ++ p) h
 
-writes_on : (taken taken' taken'' : Option (List ℕ)) (replies shown : List Reply) (ending : Ending) → Appends taken taken' (text_of replies) → WritesReplies ending taken' taken'' (text_of shown) → WritesReplies ending taken taken'' (text_of (replies ++ shown))
-writes_on taken taken' taken'' replies shown Complete h k = appends_replies taken taken' taken'' replies shown h k
-writes_on taken taken' taken'' replies shown Usage h k = appends_replies taken taken' taken'' replies shown h k
-writes_on taken taken' taken'' replies shown SourceFault h k = appends_replies taken taken' taken'' replies shown h k
-writes_on taken taken' taken'' replies shown NoMemory h k = appends_replies taken taken' taken'' replies shown h k
-writes_on taken taken' taken'' replies shown (Outside line column) h k = appends_replies taken taken' taken'' replies shown h k
-writes_on taken taken' taken'' replies shown OpenFault h k = appends_replies taken taken' taken'' replies shown h k
-writes_on taken taken' taken'' replies shown (Limit line) h k = appends_replies taken taken' taken'' replies shown h k
-writes_on taken taken' taken'' replies shown (Later line) h k = appends_replies taken taken' taken'' replies shown h k
-writes_on taken taken' taken'' replies shown SinkFault h k = front_replies taken taken' taken'' replies shown h k
+-- the lines of replies, and then of those that are written so
+writes_on : (taken taken' taken'' : Option (List ℕ)) (replies shown : List Reply) (status : ℕ) → Appends taken taken' (text_of replies) → Writes status taken' taken'' (text_of shown) → Writes status taken taken'' (text_of (replies ++ shown))
+writes_on taken taken' taken'' replies shown status h k = subst (Writes status taken taken'') (sym (text_of-append replies shown)) (writes_then status taken taken' taken'' (text_of replies) (text_of shown) h k)
 
 -- a line is never answered by these
 pub answered_complete : (number : ℕ) (text : List ℕ) (lines : List Line) (ending : Ending) → SaysUpTo number text lines ending → ending ≡ Complete → ⊥
@@ -257,16 +200,8 @@ ends_lines Memory line ending e = subst IsOfLines (sym e) tt
 
 -- what is known of the next line at the end of one is known at the end of all
 ends_on : {Here There : Type 0} → (Here → There) → (ending : Ending) (last end : Mark) → EndsAt Here ending last end → EndsAt There ending last end
-ends_on then Complete last end h = h
-ends_on then Usage last end h = h
-ends_on then SourceFault last end h = h
-ends_on then SinkFault last end h = h
 ends_on then NoMemory last end h = elim h [ inl same ↦ inl same | inr next ↦ inr (then next.0, next.1) ]
-ends_on then (Outside line column) last end h = h
-ends_on then OpenFault last end h = h
-ends_on then (Limit line) last end h = h
-ends_on then (Later zero) last end h = h
-ends_on then (Later (suc line)) last end h = h
+ends_on then ending last end h = h
 
 -- lines behind lines, from where these ended
 all_follow : {Sound SoundNow : Type 0} (Faulty : ℕ → ℕ → Type 0) (told told_now : Option (List World)) (state : RunState) (before now : Mark) → (IsSome told → IsSome told_now) → (Sound → SoundNow) → (turns more : List Turn) → last_mark before turns ≡ now →
@@ -408,7 +343,7 @@ module _ {Faulty : ℕ → ℕ → Type 0} {told : Option (List World)} {state :
         read = subst (λ c. IfSome input (λ bytes. Reads bytes c ending)) (sym (turn_lines-append p.turns u.turns))
             (reads_on input left left' pending pending' number count count' text (turn_lines p.turns) (turn_lines u.turns) ending p.read t (subst (λ s. SaysUpTo (number + 1) s (turn_lines u.turns) ending) same_text u.says));
         shows = subst (λ r. Shows r ending (turn_replies p.turns ++ u.shown)) (sym (turn_replies-append p.turns u.turns)) (shows_on (turn_replies p.turns) (turn_replies u.turns) u.shown ending u.shows);
-        written = writes_on taken taken' taken'' (turn_replies p.turns) u.shown ending p.written u.written;
+        written = writes_on taken taken' taken'' (turn_replies p.turns) u.shown (status_of ending) p.written u.written;
       }
 
 -- less is said of where the session stands then

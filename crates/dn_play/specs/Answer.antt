@@ -1,10 +1,8 @@
 -- What the answer to one line does, and what the lines of a session do.
-use Rattle.std.specs.Prelude.{◌≡◌, ◌≢◌, ◌⊎◌, ℕ, false, ◌++◌, List, [], ◌∷◌, Option, Ok, Err, IfSome, ⊤, zero, suc}
+use Rattle.std.specs.Prelude.{◌≡◌, ◌⊎◌, ℕ, false, ◌++◌, List, [], ◌∷◌, Option, Ok, Err, IfSome, ⊤}
 use Rattle.std.specs.Io.KnownBytes.{Appends}
 use Rattle.disk_model.specs.Worlds.{World}
 use Rattle.disk_model.specs.Causes.{Rose}
-use Rattle.line_io.specs.declared.lines.ReadFault.{ReadFault}
-use Rattle.line_io.specs.declared.lines.ReadFault.TheVariants.{Source, Limit as LineLimit, Memory}
 use Rattle.pool_open.specs.declared.opening.ReopenFault.{ReopenFault}
 use Rattle.pool_open.specs.declared.opening.ReopenFault.TheVariants.{Failed, Memory as NoRoom, Later as TwoMetas}
 use Rattle.script_lang.specs.declared.LineFault.TheVariants.{Bad}
@@ -12,8 +10,10 @@ use Rattle.script_lang.specs.declared.Line.{Line}
 use Rattle.script_lang.specs.declared.Line.TheVariants.{Reopen}
 use Rattle.script_lang.specs.declared.reply.Reply.{Reply}
 use Rattle.script_lang.specs.Script.{line_of}
-use Rattle.dn_play.specs.declared.ending.Ending.{Ending}
-use Rattle.dn_play.specs.declared.ending.Ending.TheVariants.{Complete, Usage, SourceFault, SinkFault, NoMemory, Outside, OpenFault, Limit, Later}
+use Rattle.run_end.specs.declared.ending.Ending.{Ending}
+use Rattle.run_end.specs.declared.ending.Ending.TheVariants.{Usage, SinkFault, NoMemory, Outside, OpenFault, Later, NotCarriedOut}
+use Rattle.run_end.specs.Ending.{status_of}
+use Rattle.run_end.specs.Closing.{Writes}
 use Rattle.dn_play.specs.State.{RunState, Turn, turn_lines, turn_replies, last_state, last_mark}
 use Rattle.dn_play.specs.Commands.{Trust}
 use Rattle.dn_play.specs.Lines.{Follows}
@@ -23,7 +23,7 @@ use Rattle.disk_model.specs.Marks.{Mark, IsLater}
 use Rattle.map_model.specs.Cells.{Cells}
 use Rattle.dn_play.specs.Standing.{IsKnown}
 use Rattle.dn_play.specs.Script.{Script, is_blank, is_carried, script_after, prepend}
-use Rattle.dn_play.specs.Session.{Reads, FirstCommands, Shows, Writes, WritesReplies, text_of, status_of, last_line}
+use Rattle.dn_play.specs.Session.{Reads, FirstCommands, Shows, text_of}
 
 -- the line's command, if it has one, was carried out, and its reply written
 pub record Answered (Faulty : ℕ → ℕ → Type 0) (told : Option (List World)) (state : RunState) (before after : Mark) (taken taken' : Option (List ℕ)) (text : List ℕ)
@@ -43,16 +43,10 @@ FirstOfLine number text commands = (rest : Script) → (others : List Line) × (
 -- How the counts at the end follow those after the last line that was answered: they are the same, but where an opening again
 -- was begun and not done. `Reopens` says that the next line asks for one.
 abbrev pub EndsAt : (Reopens : Type 0) → Ending → Mark → Mark → Type 0
-EndsAt Reopens Complete last end = last ≡ end
-EndsAt Reopens Usage last end = last ≡ end
-EndsAt Reopens SourceFault last end = last ≡ end
-EndsAt Reopens SinkFault last end = last ≡ end
 EndsAt Reopens NoMemory last end = (last ≡ end) ⊎ (Reopens × IsLater last end)
-EndsAt Reopens (Outside line column) last end = last ≡ end
 EndsAt Reopens OpenFault last end = IsLater last end × Rose last.faults end.faults
-EndsAt Reopens (Limit line) last end = last ≡ end
-EndsAt Reopens (Later zero) last end = IsLater last end
-EndsAt Reopens (Later (suc line)) last end = last ≡ end
+EndsAt Reopens NotCarriedOut last end = IsLater last end
+EndsAt Reopens ending last end = last ≡ end
 
 -- the command behind these asks for the pool to be opened again
 abbrev pub NextReopens : Option (List ℕ) → List Line → Type 0
@@ -66,7 +60,7 @@ SaysReopen text commands = (commands ≡ []) × (line_of text ≡ Ok Reopen)
 abbrev pub reopen_ending : ReopenFault → Ending
 reopen_ending Failed = OpenFault
 reopen_ending NoRoom = NoMemory
-reopen_ending TwoMetas = Later 0
+reopen_ending TwoMetas = NotCarriedOut
 
 -- the line is in the language, and isn't carried out yet
 abbrev pub SaysLater : List ℕ → Type 0
@@ -74,16 +68,13 @@ SaysLater text = (line : Line) × (line_of text ≡ Ok line) × (is_blank line �
 
 -- what a line says that was not answered
 abbrev pub SaysUpTo : ℕ → List ℕ → List Line → Ending → Type 0
-SaysUpTo number text commands Complete = ⊥
-SaysUpTo number text commands Usage = ⊥
-SaysUpTo number text commands SourceFault = ⊥
 SaysUpTo number text commands SinkFault = FirstOfLine number text commands
 SaysUpTo number text commands NoMemory = FirstOfLine number text commands
 SaysUpTo number text commands (Outside line column) = (commands ≡ []) × (line ≡ number) × (line_of text ≡ Err (Bad column))
 SaysUpTo number text commands OpenFault = SaysReopen text commands
-SaysUpTo number text commands (Limit line) = ⊥
-SaysUpTo number text commands (Later zero) = SaysReopen text commands
-SaysUpTo number text commands (Later (suc line)) = (commands ≡ []) × (suc line ≡ number) × SaysLater text
+SaysUpTo number text commands NotCarriedOut = SaysReopen text commands
+SaysUpTo number text commands (Later line) = (commands ≡ []) × (line ≡ number) × SaysLater text
+SaysUpTo number text commands ending = ⊥
 
 -- the line was not answered, or not wholly
 pub record Unanswered (Faulty : ℕ → ℕ → Type 0) (told : Option (List World)) (state : RunState) (before after : Mark) (taken taken' : Option (List ℕ)) (number : ℕ) (text : List ℕ)
@@ -96,13 +87,7 @@ pub record Unanswered (Faulty : ℕ → ℕ → Type 0) (told : Option (List Wor
   pub at_mark : EndsAt (SaysReopen text (turn_lines turns)) ending (last_mark before turns) after
   pub crash : LinesCrashSafe before state turns Sound SoundNow past since
   pub shows : Shows (turn_replies turns) ending shown
-  pub written : WritesReplies ending taken taken' (text_of shown)
-
--- how a script ends whose line can't be read
-abbrev pub ending_at : ReadFault → ℕ → Ending
-ending_at Source line = SourceFault
-ending_at LineLimit line = Limit line
-ending_at Memory line = NoMemory
+  pub written : Writes (status_of ending) taken taken' (text_of shown)
 
 -- The lines of a session up to its ending: they follow one another, their replies are written, and they are those of the input.
 pub record Played (Faulty : ℕ → ℕ → Type 0) (told : Option (List World)) (state : RunState) (before after : Mark) (input taken taken' : Option (List ℕ)) (ending : Ending)
@@ -115,23 +100,9 @@ pub record Played (Faulty : ℕ → ℕ → Type 0) (told : Option (List World))
   pub crash : LinesCrashSafe before state turns Sound SoundNow past since
   pub read : IfSome input (λ bytes. Reads bytes (turn_lines turns) ending)
   pub shows : Shows (turn_replies turns) ending shown
-  pub written : WritesReplies ending taken taken' (text_of shown)
-
--- the last line of the ending is written, or of want of memory for it; where the sink failed or fails, the status is 3
-pub record Closed (ending : Ending) (taken taken' : Option (List ℕ)) (status : ℕ) : Type 0 where
-  pub closing : Ending
-  pub closing_is : (closing ≡ ending) ⊎ ((closing ≡ NoMemory) × (ending ≢ SinkFault))
-  pub status_is : (status ≡ status_of closing) ⊎ (status ≡ 3)
-  pub written : Writes status taken taken' (last_line closing)
+  pub written : Writes (status_of ending) taken taken' (text_of shown)
 
 -- how the lines of a session may end
 abbrev pub IsOfLines : Ending → Type 0
-IsOfLines Complete = ⊤
 IsOfLines Usage = ⊥
-IsOfLines SourceFault = ⊤
-IsOfLines SinkFault = ⊤
-IsOfLines NoMemory = ⊤
-IsOfLines (Outside line column) = ⊤
-IsOfLines OpenFault = ⊤
-IsOfLines (Limit line) = ⊤
-IsOfLines (Later line) = ⊤
+IsOfLines ending = ⊤

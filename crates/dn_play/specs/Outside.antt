@@ -3,8 +3,8 @@ use Rattle.std.specs.Prelude.{ℕ, ◌≡◌, Bool, true, false, ◌&&◌, ◌||
 use Rattle.std.specs.List.{list_all}
 use Rattle.std.specs.Option.{option_map_or}
 use Rattle.script_lang.specs.NodeWords.{NodeSaid, node_of}
-use Rattle.dn_play.specs.declared.ending.Ending.{Ending}
-use Rattle.dn_play.specs.declared.ending.Ending.TheVariants.{Complete, Usage, SourceFault, SinkFault, NoMemory, Outside, OpenFault, Limit, Later}
+use Rattle.run_end.specs.declared.ending.Ending.{Ending}
+use Rattle.run_end.specs.declared.ending.Ending.TheVariants.{Usage, NoMemory, NotCarriedOut}
 
 -- as many pools as there are disks, and as many volumes as each of them has
 abbrev pub fit_disks : {D : Type 0} → (D → ℕ) → List D → NodeSaid → Bool
@@ -25,12 +25,7 @@ words_are_later words = option_map_or names_several (node_of words) false
 -- how a run ends whose words aren't carried out: they don't fit, or name several pools or volumes, or there is no memory to read them
 abbrev pub IsJudged : Bool → Bool → Option Ending → Type 0
 IsJudged fit later None = (fit ≡ true) × (later ≡ false)
-IsJudged fit later (Some Complete) = ⊥
 IsJudged fit later (Some Usage) = fit ≡ false
-IsJudged fit later (Some SourceFault) = ⊥
-IsJudged fit later (Some SinkFault) = ⊥
 IsJudged fit later (Some NoMemory) = ⊤
-IsJudged fit later (Some (Outside line column)) = ⊥
-IsJudged fit later (Some OpenFault) = ⊥
-IsJudged fit later (Some (Limit line)) = ⊥
-IsJudged fit later (Some (Later line)) = (line ≡ 0) × (fit ≡ true) × (later ≡ true)
+IsJudged fit later (Some NotCarriedOut) = (fit ≡ true) × (later ≡ true)
+IsJudged fit later (Some ending) = ⊥

@@ -11,14 +11,16 @@ use Rattle.map_model.specs.Openings.{MakesCells, ReadsAlike}
 use Rattle.map_model.specs.Sound.{exactly, Fits, IsSoundBy, IsSound}
 use Rattle.pool_open.specs.Outcome.{HoldsImage, HasTwoMetas, IsOpened}
 use Rattle.script_lang.specs.declared.reply.Reply.{Reply}
-use Rattle.dn_play.specs.declared.ending.Ending.{Ending}
-use Rattle.dn_play.specs.declared.ending.Ending.TheVariants.{NoMemory, OpenFault, Later}
+use Rattle.run_end.specs.declared.ending.Ending.{Ending}
+use Rattle.run_end.specs.declared.ending.Ending.TheVariants.{NoMemory, OpenFault, NotCarriedOut}
+use Rattle.run_end.specs.Ending.{status_of}
+use Rattle.run_end.specs.Closing.{Writes, Ends}
 use Rattle.dn_play.specs.State.{RunState, Turn, turn_lines, turn_replies, last_state, last_mark}
 use Rattle.dn_play.specs.Commands.{Trust}
 use Rattle.dn_play.specs.Lines.{Follows}
 use Rattle.dn_play.specs.Images.{AllowedSince, AllowedSinceEach}
 use Rattle.dn_play.specs.Standing.{IsKnown}
-use Rattle.dn_play.specs.Session.{Reads, Shows, Ends, WritesReplies, text_of}
+use Rattle.dn_play.specs.Session.{Reads, Shows, text_of}
 use Rattle.dn_play.specs.Answer.{IsOfLines, EndsAt, NextReopens}
 
 -- what a run is given and leaves: its disks' counts at the entry and at the exit, what they told at the entry, and its input
@@ -34,7 +36,7 @@ BeginsSound told = (start : Files) × HoldsImage told start × IsSound start
 
 -- the endings of a run whose opening isn't done
 abbrev pub IsBeforeOpened : Ending → Type 0
-IsBeforeOpened ending = (ending ≡ NoMemory) ⊎ ((ending ≡ OpenFault) ⊎ (ending ≡ Later 0))
+IsBeforeOpened ending = (ending ≡ NoMemory) ⊎ ((ending ≡ OpenFault) ⊎ (ending ≡ NotCarriedOut))
 
 -- The opening wasn't done, and nothing was carried out: it failed, or memory was wanting, or two metas of a block stand. Every
 -- image that a crash could leave since the entry reads as the one at the beginning, and is sound where that is.
@@ -43,7 +45,7 @@ pub record StopsUnopened (since : ℕ → Files → Type 0) (course : Course) (e
   pub nothing : shown ≡ []
   pub counts : IsLater course.entry course.exit
   pub open_fault : ending ≡ OpenFault → Rose course.entry.faults course.exit.faults
-  pub later : ending ≡ Later 0 → (start : Files) → HoldsImage course.told start → HasTwoMetas start
+  pub later : ending ≡ NotCarriedOut → (start : Files) → HoldsImage course.told start → HasTwoMetas start
   pub images : (start : Files) → HoldsImage course.told start → (image : Files) → since course.entry.moment image → ReadsAlike (block_files start) image
   pub sound : (start : Files) → HoldsImage course.told start → IsSound start → (image : Files) → since course.entry.moment image → IsSound image
 
@@ -72,7 +74,7 @@ pub record RunsLines (Faulty : ℕ → ℕ → Type 0) (since : ℕ → Files �
   pub images_at_exit : (image : Files) → can_leave image → AllowsImage (last_state first turns).cells image
   pub whole_at_exit : (image : Files) → can_leave image → OneWhole image
   pub whole : (image : Files) → since mark.moment image → OneWhole image
-  pub later : ending ≡ Later 0 → (image : Files) → can_leave image → HasTwoMetas image
+  pub later : ending ≡ NotCarriedOut → (image : Files) → can_leave image → HasTwoMetas image
   pub sound : (start : Files) → HoldsImage course.told start → IsSound start → (image : Files) → since course.entry.moment image → IsSound image
 
 -- a run stops before the opening is done, or runs the lines
@@ -83,7 +85,7 @@ Goes Faulty since can_leave course ending shown = StopsUnopened since course end
 pub record RunsPool (Faulty : ℕ → ℕ → Type 0) (since : ℕ → Files → Type 0) (can_leave : Files → Type 0) (course : Course) (taken taken' : Option (List ℕ)) (ending : Ending) : Type 0 where
   pub shown : List Reply
   pub goes : Goes Faulty since can_leave course ending shown
-  pub written : WritesReplies ending taken taken' (text_of shown)
+  pub written : Writes (status_of ending) taken taken' (text_of shown)
 
 -- A run: its replies are written, and the last line of its ending, and it has the ending's status.
 pub record Runs (Faulty : ℕ → ℕ → Type 0) (since : ℕ → Files → Type 0) (can_leave : Files → Type 0) (course : Course) (taken taken' : Option (List ℕ)) (status : ℕ) : Type 0 where

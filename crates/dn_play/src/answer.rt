@@ -12,11 +12,11 @@ ghost use Rattle.dn_play.specs.Images.{StaysCrashSafe};
 ghost use Rattle.dn_play.specs.Standing.{SessionStands, SoundFor, LeavesAllowed, AnyCells, SessionStandsForSome, SessionCarriesLine};
 ghost use Rattle.dn_play.specs.Answer.{Answered, Unanswered, IsOfLines, reopen_ending};
 
-use crate::ending::Ending;
 use crate::session::Session;
 use disk_model::{PoolDisks, Sink};
 use line_io::write_all;
 use pool_open::ReopenFault;
+use run_end::Ending;
 use script_lang::reply::{Reply, write_reply};
 use script_lang::{Line, LineFault, read_line};
 use std::alloc::Global;
@@ -45,7 +45,7 @@ fn reopen_ending_of(fault: ReopenFault) -> Ending
     match fault {
         ReopenFault::Failed => Ending::OpenFault,
         ReopenFault::Memory => Ending::NoMemory,
-        ReopenFault::Later => Ending::Later { line: 0 },
+        ReopenFault::Later => Ending::NotCarriedOut,
     }
 }
 
@@ -87,7 +87,6 @@ pub fn answer<D: PoolDisks, K: Sink>(
 ) -> Result<(), Ending>
     requires stands { SessionStandsForSome session.old }
     requires one_volume { D.volume_count session.old.pool.disks ≡ 1 }
-    requires some_line { 1 ≤ number }
     ensures ok { (state : RunState) → SessionStands session.old state →
         OnOk result (Answered (faulty_of D.Draft.Draft D.Reader.Reader) (D.worlds session.old.pool.disks)
         state (mark_of D.PoolDisks session.old.pool.disks) (mark_of D.PoolDisks session.new.pool.disks)
@@ -101,7 +100,7 @@ pub fn answer<D: PoolDisks, K: Sink>(
         (SoundFor session.old) AnyCells
         (D.left_since session.old.pool.disks) (D.left_since session.new.pool.disks)) }
     ensures of_lines { IfErr result IsOfLines }
-    ensures two_metas { IsErrOf result (Ending.Later 0) → (image : Files) → CanLeave (D.worlds session.new.pool.disks) image → HasTwoMetas image }
+    ensures two_metas { IsErrOf result Ending.NotCarriedOut → (image : Files) → CanLeave (D.worlds session.new.pool.disks) image → HasTwoMetas image }
     ensures goes_on { GoesOn D.PoolDisks session.old.pool.disks session.new.pool.disks }
     ensures sink { IsErrOf result Ending.SinkFault → Rose (K.faults sink.old) (K.faults sink.new) }
     ensures later { K.faults sink.old ≤ K.faults sink.new }

@@ -2,9 +2,7 @@
 #![tactic(auto)]
 
 mod answer;
-mod closing;
 mod commands;
-pub mod ending;
 mod lines;
 mod open_writers;
 mod playing;

@@ -8,28 +8,17 @@ ghost use Rattle.disk_model.specs.Marks.{GoesOn, faulty_of, mark_of};
 ghost use Rattle.pool_open.specs.Outcome.{HasTwoMetas};
 ghost use Rattle.dn_play.specs.State.{RunState};
 ghost use Rattle.dn_play.specs.Standing.{SessionStands, SoundFor, LeavesAllowed, AnyCells, SessionStandsForSome};
-ghost use Rattle.dn_play.specs.Answer.{Played, IsOfLines, ending_at};
+ghost use Rattle.dn_play.specs.Answer.{Played, IsOfLines};
 
 use crate::answer::answer;
-use crate::ending::Ending;
 use crate::session::Session;
 use disk_model::{PoolDisks, Sink, Source};
-use line_io::{LineReader, ReadFault};
+use line_io::LineReader;
+use run_end::Ending;
 use std::alloc::Global;
 
 /// How many bytes are asked of the source at a time.
 const PIECE: usize = 65_536;
-
-/// How a script ends whose line can't be read.
-fn ending_of(fault: ReadFault, line: u64) -> Ending
-    ensures { result ≡ ending_at fault line }
-{
-    match fault {
-        ReadFault::Source => Ending::SourceFault,
-        ReadFault::Limit => Ending::Limit { line },
-        ReadFault::Memory => Ending::NoMemory,
-    }
-}
 
 /// Carries out the lines of the source, up to the last line of the output.
 pub fn play_lines<D: PoolDisks, S: Source, K: Sink>(
@@ -48,7 +37,7 @@ pub fn play_lines<D: PoolDisks, S: Source, K: Sink>(
         (D.left_since session.old.pool.disks) (D.left_since session.new.pool.disks) }
     ensures goes_on { GoesOn D.PoolDisks session.old.pool.disks session.new.pool.disks }
     ensures of_lines { IsOfLines result }
-    ensures two_metas { result ≡ Ending.Later 0 → (image : Files) → CanLeave (D.worlds session.new.pool.disks) image → HasTwoMetas image }
+    ensures two_metas { result ≡ Ending.NotCarriedOut → (image : Files) → CanLeave (D.worlds session.new.pool.disks) image → HasTwoMetas image }
     ensures at_end { result ≡ Ending.Complete → IsAtEnd (S.left source.new) }
     ensures source { result ≡ Ending.SourceFault → Rose (S.faults source.old) (S.faults source.new) }
     ensures sink { result ≡ Ending.SinkFault → Rose (K.faults sink.old) (K.faults sink.new) }
@@ -65,7 +54,7 @@ pub fn play_lines<D: PoolDisks, S: Source, K: Sink>(
         let line = number + 1;
         let found = match reader.next_line(source, &mut text) {
             Ok(found) => found,
-            Err(fault) => return ending_of(fault, line),
+            Err(fault) => return Ending::of_read(fault, line),
         };
         if !found {
             return Ending::Complete;

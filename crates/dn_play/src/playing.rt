@@ -5,16 +5,16 @@ ghost use Rattle.disk_model.specs.Causes.{Rose};
 ghost use Rattle.disk_model.specs.Told.{InEachWorld, CanLeave};
 ghost use Rattle.disk_model.specs.Marks.{faulty_of, mark_of};
 ghost use Rattle.map_model.specs.World.{DraftsAside};
+ghost use Rattle.run_end.specs.Closing.{Declines};
 ghost use Rattle.dn_play.specs.Script.{script_of};
-ghost use Rattle.dn_play.specs.Session.{Declines, status_at};
+ghost use Rattle.dn_play.specs.Session.{status_at};
 ghost use Rattle.dn_play.specs.Outside.{words_fit, words_are_later};
 ghost use Rattle.dn_play.specs.Play.{Runs, OfOne};
 
-use crate::closing::close;
-use crate::ending::Ending;
 use crate::pool_run::play_pool;
 use crate::words::judge_words;
 use disk_model::{PoolDisks, Sink, Source};
+use run_end::{Ending, close};
 use std::alloc::Global;
 
 /// How a run ended, and the disks that it gives back.
@@ -45,7 +45,7 @@ pub fn play<D: PoolDisks, S: Source, K: Sink>(
     ensures usage { result.status ≡ 1 → words_fit D.volume_count (map string_bytes words.now) disks.items ≡ false }
     // So are words that name several pools or volumes, as long as these aren't carried out.
     ensures later { words_fit D.volume_count (map string_bytes words.now) disks.items ≡ true → words_are_later (map string_bytes words.now) ≡ true →
-        Declines (Ending.Later 0) (K.taken sink.old) (K.taken sink.new) result.status × (source.new ≡ source.old) × (result.disks.items ≡ disks.items) }
+        Declines Ending.NotCarriedOut (K.taken sink.old) (K.taken sink.new) result.status × (source.new ≡ source.old) × (result.disks.items ≡ disks.items) }
     // Otherwise the pool is opened, and the lines of the script are carried out.
     ensures run { words_fit D.volume_count (map string_bytes words.now) disks.items ≡ true → words_are_later (map string_bytes words.now) ≡ false →
         OfOne disks.items result.disks.items (λ before after. Runs (faulty_of D.Draft.Draft D.Reader.Reader)

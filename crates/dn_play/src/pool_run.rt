@@ -7,13 +7,13 @@ ghost use Rattle.disk_model.specs.Marks.{faulty_of, mark_of};
 ghost use Rattle.map_model.specs.World.{DraftsAside};
 ghost use Rattle.dn_play.specs.Play.{RunsPool};
 
-use crate::ending::Ending;
 use crate::lines::play_lines;
 use crate::open_writers::OpenWriters;
 use crate::session::Session;
 use disk_model::{PoolDisks, Sink, Source};
 use pool_open::{OpenFault, open_pool};
 use pool_state::close_pool;
+use run_end::Ending;
 use std::alloc::Global;
 
 /// How a script ended, and the disks that were given back.
@@ -57,7 +57,7 @@ pub fn play_pool<D: PoolDisks, S: Source, K: Sink>(
             disks,
         },
         Err(OpenFault::Later(disks)) => return PoolRun {
-            ending: Ending::Later { line: 0 },
+            ending: Ending::NotCarriedOut,
             disks,
         },
     };

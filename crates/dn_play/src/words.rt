@@ -3,8 +3,8 @@ ghost use Rattle.std.specs.Prelude.{◌≡◌, ◌==◌, map, string_bytes};
 ghost use Rattle.std.specs.List.{list_all};
 ghost use Rattle.dn_play.specs.Outside.{fit_disks, names_several, words_fit, words_are_later, IsJudged};
 
-use crate::ending::Ending;
 use disk_model::PoolDisks;
+use run_end::Ending;
 use script_lang::node_words::{NodeWords, WordsFault, read_words};
 use std::alloc::Global;
 
@@ -42,7 +42,7 @@ pub fn judge_words<D: PoolDisks>(alloc: Global, words: &[String], disks: &[D]) -
         return Some(Ending::Usage);
     }
     if name_several(&said) {
-        return Some(Ending::Later { line: 0 });
+        return Some(Ending::NotCarriedOut);
     }
     None
 }

@@ -7,6 +7,7 @@ use Rattle.disk_model.specs.Files.{path_in}
 use Rattle.disk_model.specs.Worlds.{World, IsListing}
 use Rattle.volume_layout.specs.Paths.{IsBlockId, IsStamp, is_stamp, block_path, meta_path}
 use Rattle.map_model.specs.World.{DraftsAside}
+use Rattle.map_model.specs.Cells.{Replica}
 use Rattle.volume_layout.specs.declared.block_file.BlockFile.{BlockFile}
 use Rattle.volume_layout.specs.declared.block_file.BlockFile.TheVariants.{Block, Meta, WritingBlock, WritingMeta, TemporaryBlock, TemporaryMeta}
 use Rattle.volume_layout.specs.BlockFiles.{path_of, dir_of, name_of, is_file, is_aside_file}
@@ -25,6 +26,7 @@ use Rattle.pool_open.specs.declared.outcome.Outcome.TheVariants.{Final}
 use Rattle.pool_open.specs.Plan.{outcome_of, cleared_paths}
 use Rattle.pool_open.specs.Found.{IsSizeOf, SaysFound}
 use Rattle.pool_open.specs.Clearing.{Clears, AreClear}
+use Rattle.pool_open.proofs.Slots.{replica_of}
 use Rattle.pool_open.proofs.Lists.{found_listed}
 use Rattle.pool_open.proofs.Planned.{Spares, spared, clears_temporary, clears_meta, clears_writing, clears_writing_meta, clears_lone_meta}
 use Rattle.pool_open.proofs.Blocks.{MakesFinal, Partly, Left, slot_bytes, cell_of, files_stand, none_stands, was_standing}

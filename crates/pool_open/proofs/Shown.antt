@@ -10,7 +10,7 @@ use Rattle.disk_model.specs.Told.{Leaves}
 use Rattle.map_model.specs.World.{DraftsAside}
 use Rattle.map_model.specs.Cells.{Replica}
 use Rattle.map_model.specs.Copies.{Spot, BlockFiles, IsCopy, IsAlone, ReadsAs, files_of, block_files}
-use Rattle.meta_file.specs.Openings.{shown_files, ReadsAlike}
+use Rattle.map_model.specs.Openings.{shown_files, ReadsAlike}
 use Rattle.map_model.specs.Sound.{matching, Fits, HasSoundCopies}
 use Rattle.map_model.specs.Slots.{files_in, view_of}
 use Rattle.map_model.proofs.Bridge.{image_files}

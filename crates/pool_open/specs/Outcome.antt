@@ -10,7 +10,7 @@ use Rattle.disk_model.specs.Worlds.{World}
 use Rattle.disk_model.specs.Told.{IsWorldOf, InEachWorld, CanLeave}
 use Rattle.disk_model.specs.Moments.{AddsOnly}
 use Rattle.map_model.specs.Cells.{Replica, Cell, Cells, absent, final, waiting}
-use Rattle.meta_file.specs.Copies.{Spot, IsCopy, IsAlone, OneWhole}
+use Rattle.map_model.specs.Copies.{Spot, IsCopy, IsAlone, OneWhole}
 use Rattle.map_model.specs.Openings.{MakesCells, shown_files, ReadsAlike}
 use Rattle.map_model.specs.Sound.{Metas, Knowledge, matching, exactly, Fits, HasSoundCopies, IsSound}
 use Rattle.map_model.specs.Stands.{Leftover}

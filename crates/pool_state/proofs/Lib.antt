@@ -9,5 +9,4 @@ pub mod QuietRemovals
 pub mod Lending
 pub mod Pushing
 pub mod Belonging
-pub mod EmptyDisks
 pub mod Deletions

@@ -26,7 +26,7 @@ pub returns-then-not-is_carried_out-clause-err : goal.returns-then-not-is_carrie
 returns-then-not-is_carried_out-clause-err g c state standing =
     unanswered_less {StandsFor = SessionStands c.args.session.now}
     (unanswered_later standing (now_allowed standing.pool (g.met.D.PoolDisks.only_now c.args.session.now.pool.disks)) _ _ _
-    (c.in-Ok.line, told_ok c.args.text.now c.in-Ok.line c.in-Ok.ensures.line, not_blank c.in-Ok.line c.in_default.not-Blank, sym c.is_carried_out.ensures ∙ c.if-not-is_carried_out.true) c.requires.some_line)
+    (c.in-Ok.line, told_ok c.args.text.now c.in-Ok.line c.in-Ok.ensures.line, not_blank c.in-Ok.line c.in_default.not-Blank, sym c.is_carried_out.ensures ∙ c.if-not-is_carried_out.true))
     (λ s stood. leaves_safe stood.pool)
 
 pub carry_out-requires-clause-command : goal.carry_out-requires-clause-command

@@ -1,9 +1,10 @@
 use Rattle.std.proofs.Common.{ap, sym, ◌∙◌, subst, Ok, Err, arith}
-use Rattle.dn_play.specs.declared.ending.Ending.{Ending}
+use Rattle.run_end.specs.declared.ending.Ending.{Ending}
+use Rattle.run_end.specs.Ending.{IsOfReading}
 use Rattle.dn_play.specs.Answer.{Played}
 use Rattle.disk_model.specs.Marks.{faulty_of, mark_of}
 use Rattle.dn_play.specs.Standing.{SessionStands, SoundFor, LeavesAllowed, AnyCells}
-use Rattle.dn_play.proofs.Progress.{starts, goes_on_by, played_nothing, played_complete, played_fault, played_unanswered, played_less, not_complete, not_later, not_sink, from_source, rose_from, ends_lines, answered_complete, answered_source}
+use Rattle.dn_play.proofs.Progress.{starts, goes_on_by, played_nothing, played_complete, played_fault, played_unanswered, played_less, rose_from, ends_lines, answered_complete, answered_source}
 use Rattle.dn_play.proofs.Crashes.{now_allowed, leaves_safe}
 use Rattle.disk_model.proofs.GoingOn.{went_same, went_then}
 use Rattle.dn_play.proofs.lines.play_lines.Goals as goal
@@ -30,25 +31,25 @@ returns-in-Err-clause-played g c state standing =
     (g.S.Source.left c.args.source.now) (g.K.Sink.taken c.args.sink.now) (g.K.Sink.taken c.lines.sink) ending
     (LeavesAllowed (g.D.PoolDisks.worlds c.lines.session.pool.disks))
     (SoundFor c.args.session.now) AnyCells
-    (g.D.PoolDisks.left_since c.args.session.now.pool.disks) (g.D.PoolDisks.left_since c.lines.session.pool.disks)) (sym c.ending_of.ensures)
+    (g.D.PoolDisks.left_since c.args.session.now.pool.disks) (g.D.PoolDisks.left_since c.lines.session.pool.disks)) (sym c.of_read.ensures.ending)
     (played_less {StandsFor = SessionStands c.lines.session}
     (played_fault _ (g.S.Source.left c.lines.source) c.lines.reader.bytes c.lines.number c.lines.reader.count _ _ (c.lines.invariant.progress state standing) c.in-Err.fault (λ e. c.in-Err.ensures.limit (ap Err e)))
     (λ s stood. leaves_safe stood.pool))
 
 pub returns-in-Err-clause-of_lines : goal.returns-in-Err-clause-of_lines
-returns-in-Err-clause-of_lines g c = ends_lines _ _ _ c.ending_of.ensures
+returns-in-Err-clause-of_lines g c = ends_lines _ _ _ c.of_read.ensures.ending
 
 pub returns-in-Err-clause-at_end : goal.returns-in-Err-clause-at_end
-returns-in-Err-clause-at_end g c = λ e. absurd (not_complete _ _ _ c.ending_of.ensures e)
+returns-in-Err-clause-at_end g c = λ e. absurd (subst IsOfReading e c.of_read.ensures.reading)
 
 pub returns-in-Err-clause-source : goal.returns-in-Err-clause-source
-returns-in-Err-clause-source g c = λ e. rose_from _ (g.S.Source.faults c.lines.source) _ c.lines.invariant.later_source (c.in-Err.ensures.source (ap Err (from_source _ _ _ c.ending_of.ensures e)))
+returns-in-Err-clause-source g c = λ e. rose_from _ (g.S.Source.faults c.lines.source) _ c.lines.invariant.later_source (c.in-Err.ensures.source (ap Err (c.of_read.ensures.source e)))
 
 pub returns-in-Err-clause-sink : goal.returns-in-Err-clause-sink
-returns-in-Err-clause-sink g c = λ e. absurd (not_sink _ _ _ c.ending_of.ensures e)
+returns-in-Err-clause-sink g c = λ e. absurd (subst IsOfReading e c.of_read.ensures.reading)
 
 pub returns-in-Err-clause-two_metas : goal.returns-in-Err-clause-two_metas
-returns-in-Err-clause-two_metas g c = λ e. absurd (not_later _ _ _ c.ending_of.ensures e)
+returns-in-Err-clause-two_metas g c = λ e. absurd (subst IsOfReading e c.of_read.ensures.reading)
 
 pub returns-then-not-found-clause-played : goal.returns-then-not-found-clause-played
 returns-then-not-found-clause-played g c state standing =

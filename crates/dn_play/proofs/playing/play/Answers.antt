@@ -1,22 +1,22 @@
-use Rattle.std.proofs.Common.{◌≡◌, inl, inr, true, false, map, length, string_bytes, Some, refl, sym, ap, ◌∙◌, subst, arith}
+use Rattle.std.proofs.Common.{◌≡◌, inl, inr, true, false, map, length, string_bytes, Some, refl, sym, ap, ◌∙◌, subst}
 use Rattle.disk_model.specs.Told.{InEachWorld}
 use Rattle.map_model.specs.World.{DraftsAside}
-use Rattle.dn_play.specs.declared.ending.Ending.TheVariants.{Complete, Usage, SourceFault, SinkFault, OpenFault}
+use Rattle.run_end.specs.declared.ending.Ending.TheVariants.{Complete, Usage, SourceFault, SinkFault, OpenFault}
 use Rattle.dn_play.specs.Outside.{words_fit}
-use Rattle.dn_play.proofs.LastLine.{run_of, told_status, of_complete, of_usage, of_source, of_open, not_usage, opening_failed, rose_in, stops_at}
+use Rattle.dn_play.proofs.LastLine.{run_of, not_usage, opening_failed, rose_in, stops_at}
 use Rattle.dn_play.proofs.Judging.{judged_memory, judged_usage, judged_later, never_judged, run_without, memory_stops}
 use Rattle.dn_play.proofs.OneDisk.{one_disk, one_disk_lent, in_place, volumes_stay, some_disk, holds_of_only, judged_items}
 use Rattle.dn_play.proofs.playing.play.Goals as goal
 
 pub returns-in-Some-clause-refused : goal.returns-in-Some-clause-refused
-returns-in-Some-clause-refused g c = λ unfit. (judged_usage _ _ c.in-Some.ending _ _ _ (judged_items g.D.PoolDisks.volume_count (map string_bytes c.args.words.now) (Some c.in-Some.ending) _ _ c.as_slice.ensures.value c.in-Some.ensures) unfit c.close.ensures.closed, refl, refl)
+returns-in-Some-clause-refused g c = λ unfit. (judged_usage _ _ c.in-Some.ending _ _ _ (judged_items g.D.PoolDisks.volume_count (map string_bytes c.args.words.now) (Some c.in-Some.ending) _ _ c.as_slice.ensures.value c.in-Some.ensures) unfit c.close.ensures.declines, refl, refl)
 
 pub returns-in-Some-clause-usage : goal.returns-in-Some-clause-usage
 returns-in-Some-clause-usage g c = λ e. never_judged _ _ c.in-Some.ending Usage (judged_items g.D.PoolDisks.volume_count (map string_bytes c.args.words.now) (Some c.in-Some.ending) _ _ c.as_slice.ensures.value c.in-Some.ensures)
-    (of_usage _ (told_status _ _ 1 c.close.ensures.status e (λ k. omega arith) (λ k. omega arith)))
+    (c.close.ensures.usage e)
 
 pub returns-in-Some-clause-later : goal.returns-in-Some-clause-later
-returns-in-Some-clause-later g c = λ fits several. (judged_later _ _ c.in-Some.ending _ _ _ (judged_items g.D.PoolDisks.volume_count (map string_bytes c.args.words.now) (Some c.in-Some.ending) _ _ c.as_slice.ensures.value c.in-Some.ensures) fits c.close.ensures.closed, refl, refl)
+returns-in-Some-clause-later g c = λ fits several. (judged_later _ _ c.in-Some.ending _ _ _ (judged_items g.D.PoolDisks.volume_count (map string_bytes c.args.words.now) (Some c.in-Some.ending) _ _ c.as_slice.ensures.value c.in-Some.ensures) fits c.close.ensures.declines, refl, refl)
 
 pub returns-in-Some-clause-run : goal.returns-in-Some-clause-run
 returns-in-Some-clause-run g c = λ fits one.
@@ -26,20 +26,20 @@ returns-in-Some-clause-run g c = λ fits one.
       after = only.disk;
       one_before = only.only;
       one_after = only.only;
-      holds = run_without _ _ _ _ _ _ _ c.in-Some.ending _ (judged_memory _ _ c.in-Some.ending (judged_items g.D.PoolDisks.volume_count (map string_bytes c.args.words.now) (Some c.in-Some.ending) _ _ c.as_slice.ensures.value c.in-Some.ensures) fits one) (g.met.D.PoolDisks.only_now only.disk) c.close.ensures.closed;
+      holds = run_without _ _ _ _ _ _ _ c.in-Some.ending _ (judged_memory _ _ c.in-Some.ending (judged_items g.D.PoolDisks.volume_count (map string_bytes c.args.words.now) (Some c.in-Some.ending) _ _ c.as_slice.ensures.value c.in-Some.ensures) fits one) (g.met.D.PoolDisks.only_now only.disk) c.close.ensures.declines;
     }
 
 pub returns-in-Some-clause-at_end : goal.returns-in-Some-clause-at_end
-returns-in-Some-clause-at_end g c = λ e. absurd (never_judged _ _ c.in-Some.ending Complete c.in-Some.ensures (of_complete _ (told_status _ _ 0 c.close.ensures.status e (λ k. omega arith) (λ k. omega arith))))
+returns-in-Some-clause-at_end g c = λ e. absurd (never_judged _ _ c.in-Some.ending Complete c.in-Some.ensures (c.close.ensures.completed e))
 
 pub returns-in-Some-clause-source_fault : goal.returns-in-Some-clause-source_fault
-returns-in-Some-clause-source_fault g c = λ e. absurd (never_judged _ _ c.in-Some.ending SourceFault c.in-Some.ensures (of_source _ (told_status _ _ 2 c.close.ensures.status e (λ k. omega arith) (λ k. omega arith))))
+returns-in-Some-clause-source_fault g c = λ e. absurd (never_judged _ _ c.in-Some.ending SourceFault c.in-Some.ensures (c.close.ensures.source e))
 
 pub returns-in-Some-clause-sink_fault : goal.returns-in-Some-clause-sink_fault
 returns-in-Some-clause-sink_fault g c = λ e. elim (c.close.ensures.sink e) [ inl k ↦ absurd (never_judged _ _ c.in-Some.ending SinkFault c.in-Some.ensures k) | inr k ↦ k ]
 
 pub returns-in-Some-clause-open_fault : goal.returns-in-Some-clause-open_fault
-returns-in-Some-clause-open_fault g c = λ e. absurd (never_judged _ _ c.in-Some.ending OpenFault c.in-Some.ensures (of_open _ (told_status _ _ 6 c.close.ensures.status e (λ k. omega arith) (λ k. omega arith))))
+returns-in-Some-clause-open_fault g c = λ e. absurd (never_judged _ _ c.in-Some.ending OpenFault c.in-Some.ensures (c.close.ensures.open e))
 
 pub returns-in-Some-clause-complete : goal.returns-in-Some-clause-complete
 returns-in-Some-clause-complete g c = λ fits one. memory_stops _ _ _ _ _ _
@@ -72,7 +72,7 @@ returns-clause-refused g c = λ unfit.
 
 pub returns-clause-usage : goal.returns-clause-usage
 returns-clause-usage g c = λ e. absurd (not_usage _ _ _ _ c.play_pool-run.ensures.runs.shown _ c.play_pool-run.ensures.runs.goes
-    (of_usage _ (told_status _ _ 1 c.close-status.ensures.status e (λ k. omega arith) (λ k. omega arith))))
+    (c.close-status.ensures.usage e))
 
 pub returns-clause-later : goal.returns-clause-later
 returns-clause-later g c = λ fits several. absurd (let x : true ≡ false = sym several ∙ c.in_default.ensures.1 in cc x)
@@ -86,14 +86,14 @@ returns-clause-run g c = λ fits one.
       after = c.play_pool-run.result.disks;
       one_before = p.0;
       one_after = p.1;
-      holds = run_of _ _ _ _ _ (g.K.Sink.taken c.play_pool-run.new.sink) _ _ _ c.play_pool-run.ensures.runs c.close-status.ensures.closed;
+      holds = run_of _ _ _ _ _ (g.K.Sink.taken c.play_pool-run.new.sink) _ _ _ c.play_pool-run.ensures.runs (c.close-status.ensures.closed _ _ c.play_pool-run.ensures.runs.written);
     }
 
 pub returns-clause-at_end : goal.returns-clause-at_end
-returns-clause-at_end g c = λ e. c.play_pool-run.ensures.at_end (of_complete _ (told_status _ _ 0 c.close-status.ensures.status e (λ k. omega arith) (λ k. omega arith)))
+returns-clause-at_end g c = λ e. c.play_pool-run.ensures.at_end (c.close-status.ensures.completed e)
 
 pub returns-clause-source_fault : goal.returns-clause-source_fault
-returns-clause-source_fault g c = λ e. c.play_pool-run.ensures.source (of_source _ (told_status _ _ 2 c.close-status.ensures.status e (λ k. omega arith) (λ k. omega arith)))
+returns-clause-source_fault g c = λ e. c.play_pool-run.ensures.source (c.close-status.ensures.source e)
 
 pub returns-clause-sink_fault : goal.returns-clause-sink_fault
 returns-clause-sink_fault g c = λ e. rose_in _ _ (g.K.Sink.faults c.play_pool-run.new.sink) _ c.play_pool-run.ensures.sink c.play_pool-run.ensures.later_sink c.close-status.ensures.later (c.close-status.ensures.sink e)
@@ -107,15 +107,15 @@ returns-clause-open_fault g c = λ e.
       after = c.play_pool-run.result.disks;
       one_before = p.0;
       one_after = p.1;
-      holds = opening_failed _ _ _ _ c.play_pool-run.ensures.runs.shown _ c.play_pool-run.ensures.runs.goes (of_open _ (told_status _ _ 6 c.close-status.ensures.status e (λ k. omega arith) (λ k. omega arith)));
+      holds = opening_failed _ _ _ _ c.play_pool-run.ensures.runs.shown _ c.play_pool-run.ensures.runs.goes (c.close-status.ensures.open e);
     }
 
 pub returns-clause-complete : goal.returns-clause-complete
 returns-clause-complete g c = λ fits one.
     let only = one_disk g.D.PoolDisks.volume_count _ _ fits one in
     let p = in_place g.D.PoolDisks.volume_count _ _ _ _ c.play_pool-run.result.disks only c.in-Some-pop.ensures.items c.in-Ok.ensures.items in
-    stops_at _ _ _ _ _ _ _ _ _ _ (run_of _ _ _ _ _ (g.K.Sink.taken c.play_pool-run.new.sink) _ _ _ c.play_pool-run.ensures.runs c.close-status.ensures.closed)
-    (λ e. c.play_pool-run.ensures.source (of_source _ (told_status _ _ 2 c.close-status.ensures.status e (λ k. omega arith) (λ k. omega arith))))
+    stops_at _ _ _ _ _ _ _ _ _ _ (run_of _ _ _ _ _ (g.K.Sink.taken c.play_pool-run.new.sink) _ _ _ c.play_pool-run.ensures.runs (c.close-status.ensures.closed _ _ c.play_pool-run.ensures.runs.written))
+    (λ e. c.play_pool-run.ensures.source (c.close-status.ensures.source e))
     (λ e. rose_in _ _ (g.K.Sink.faults c.play_pool-run.new.sink) _ c.play_pool-run.ensures.sink c.play_pool-run.ensures.later_sink c.close-status.ensures.later (c.close-status.ensures.sink e))
     (λ rose. record { before = c.in-Some-pop.disk; after = c.play_pool-run.result.disks; one_before = p.0; one_after = p.1; holds = rose })
 

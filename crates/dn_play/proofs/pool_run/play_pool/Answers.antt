@@ -2,7 +2,7 @@ use Rattle.std.proofs.Common.{inl, inr, ap, ◌∙◌, refl, subst, Err, option_
 use Rattle.std.specs.Prelude.{IsSome}
 use Rattle.pair_draft.specs.Writers.{writer_of}
 use Rattle.pool_open.specs.Outcome.{fault_disks}
-use Rattle.dn_play.proofs.Answering.{appends_nothing}
+use Rattle.line_io.proofs.Appending.{appends_nothing}
 use Rattle.dn_play.proofs.Opening.{first_of, stands_first, left_start, stops_so, runs_so}
 use Rattle.dn_play.proofs.pool_run.play_pool.Goals as goal
 
