@@ -9,4 +9,5 @@ pub mod QuietRemovals
 pub mod Lending
 pub mod Pushing
 pub mod Belonging
+pub mod EmptyDisks
 pub mod Deletions
