@@ -167,42 +167,55 @@ fn failed_calls(alloc: Global, disks: &mut OsDisks, dir: &str) -> Result<[bool; 
     ])
 }
 
+/// Whether disks of these volumes are refused, as their locks can't be taken.
+fn are_refused(rt: &HostRuntime, dirs: &[&str]) -> Result<bool, AllocError>
+    requires some { 1 ≤ length dirs.now }
+    requires limit { length dirs.now ≤ 64 }
+{
+    let mut disks = open_disks(rt, dirs)?;
+    let failed = failed_calls(rt.alloc(), &mut disks, "tmp")?;
+    Ok(failed == [true; 6] && disks.faults >= 6)
+}
+
 #[test]
 fn nothing_is_touched_without_the_locks(rt: HostRuntime) -> Result<(), Fail> {
     let _absent = fs::remove_dir_all(&rt, "disks_of_locks");
     let mut held = open_disks(&rt, &["disks_of_locks/v1"])?;
-    let lock = "disks_of_locks/v2/in_use.lock";
     assert_eq!(rt; held.list(rt.alloc(), 1, "tmp")?.len(), 0);
 
     // the first volume is locked already, by other disks of this process
-    let mut refused = open_disks(&rt, &["disks_of_locks/v1", "disks_of_locks/v2"])?;
-    assert_eq!(rt; failed_calls(rt.alloc(), &mut refused, "tmp")?, [true; 6]);
-    assert_eq!(rt; refused.faults, 6);
+    assert!(rt; are_refused(&rt, &["disks_of_locks/v1", "disks_of_locks/v2"])?);
     assert!(rt; !fs::exists(&rt, "disks_of_locks/v2")?);
-    let mut refused = open_disks(&rt, &["disks_of_locks/v2", "disks_of_locks/v1"])?;
-    assert_eq!(rt; failed_calls(rt.alloc(), &mut refused, "tmp")?, [true; 6]);
-    assert_eq!(rt; refused.faults, 6);
-    assert!(rt; fs::exists(&rt, lock)?);
+    assert!(rt; are_refused(&rt, &["disks_of_locks/v2", "disks_of_locks/v1"])?);
     assert!(rt; !fs::exists(&rt, "disks_of_locks/v2/current")?);
 
     // a lock's file that is a link is not opened
-    fs::remove_file(&rt, lock)?;
-    symlink(&rt, "outside", lock)?;
-    let mut refused = open_disks(&rt, &["disks_of_locks/v2"])?;
-    assert_eq!(rt; failed_calls(rt.alloc(), &mut refused, "tmp")?, [true; 6]);
-    assert_eq!(rt; refused.faults, 6);
+    fs::remove_file(&rt, "disks_of_locks/v2/in_use.lock")?;
+    symlink(&rt, "outside", "disks_of_locks/v2/in_use.lock")?;
+    assert!(rt; are_refused(&rt, &["disks_of_locks/v2"])?);
     assert!(rt; !fs::exists(&rt, "disks_of_locks/v2/outside")?);
+    fs::remove_dir_all(&rt, "disks_of_locks")?;
+    Ok(())
+}
 
-    // a lock ends with its disks, and its file stays
-    drop(held);
-    let mut held = open_disks(&rt, &["disks_of_locks/v1"])?;
-    assert_eq!(rt; held.list(rt.alloc(), 1, "tmp")?.len(), 0);
-    drop(held);
+#[test]
+fn pools_share_a_lock_that_ends_with_the_last(rt: HostRuntime) -> Result<(), Fail> {
+    let _absent = fs::remove_dir_all(&rt, "disks_of_pools");
+    let dirs = ["disks_of_pools/v1"];
+    let locks = VolumeLocks::take(&rt, &dirs)?;
+    let first = OsDisks::open(rt.clone()?, "bp1", &dirs, &locks)?;
+    let mut second = OsDisks::open(rt.clone()?, "bp2", &dirs, &locks)?;
+    drop(locks);
+    drop(first);
+    assert_eq!(rt; second.list(rt.alloc(), 1, "tmp")?.len(), 0);
+    assert!(rt; are_refused(&rt, &dirs)?);
+    drop(second);
+    assert!(rt; !are_refused(&rt, &dirs)?);
     assert_eq!(rt;
-        fs::metadata(&rt, "disks_of_locks/v1/in_use.lock")?.len(),
+        fs::metadata(&rt, "disks_of_pools/v1/in_use.lock")?.len(),
         0
     );
-    fs::remove_dir_all(&rt, "disks_of_locks")?;
+    fs::remove_dir_all(&rt, "disks_of_pools")?;
     Ok(())
 }
 
@@ -313,37 +326,70 @@ fn other_things_at_names_of_files_are_not_followed(rt: HostRuntime) -> Result<()
         );
         assert!(rt; is_kept(&rt, outside)?);
     }
+    fs::remove_dir_all(&rt, "disks_of_things")?;
+    Ok(())
+}
 
-    // only the file with a further name is listed
+#[test]
+fn only_files_are_listed(rt: HostRuntime) -> Result<(), Fail> {
+    let _absent = fs::remove_dir_all(&rt, "disks_of_names");
+    let outside = "disks_of_names/outside";
+    make_outside(&rt, outside)?;
+    let mut disks = open_disks(&rt, &["disks_of_names/v1"])?;
+    fs::create_dir(&rt, "disks_of_names/v1/current/bp1/tmp")?;
     put(
         &rt,
         Thing::LinkToFile,
         outside,
-        "disks_of_things/v1/current/bp1/tmp/blk_1",
+        "disks_of_names/v1/current/bp1/tmp/blk_1",
     )?;
     put(
         &rt,
         Thing::LinkToDirectory,
         outside,
-        "disks_of_things/v1/current/bp1/tmp/blk_2",
+        "disks_of_names/v1/current/bp1/tmp/blk_2",
     )?;
     put(
         &rt,
         Thing::DanglingLink,
         outside,
-        "disks_of_things/v1/current/bp1/tmp/blk_3",
+        "disks_of_names/v1/current/bp1/tmp/blk_3",
     )?;
     put(
         &rt,
         Thing::HardLink,
         outside,
-        "disks_of_things/v1/current/bp1/tmp/blk_4",
+        "disks_of_names/v1/current/bp1/tmp/blk_4",
+    )?;
+    put(
+        &rt,
+        Thing::Directory,
+        outside,
+        "disks_of_names/v1/current/bp1/tmp/blk_5",
     )?;
     let listed = disks.list(rt.alloc(), 1, "tmp")?;
     assert_eq!(rt; listed.len(), 1);
     assert_eq!(rt; listed.get(0), "blk_4");
-    fs::remove_dir_all(&rt, "disks_of_things")?;
+    fs::remove_dir_all(&rt, "disks_of_names")?;
     Ok(())
+}
+
+/// Whether each call fails in a directory of the pool in whose place a link to another one stands.
+fn is_link_refused(rt: &HostRuntime, disks: &mut OsDisks, dir: &str) -> io::Result<bool>
+    requires { 1 ≤ ⟦<OsDisks as PoolDisks>⟧.volume_count disks.old }
+    ensures { ⟦<OsDisks as PoolDisks>⟧.volume_count disks.new ≡ ⟦<OsDisks as PoolDisks>⟧.volume_count disks.old }
+{
+    let real = format!(in rt.alloc(); "disks_of_links/v1/current/bp1/{dir}")?;
+    fs::create_dir_all(rt, real.as_str())?;
+    put(
+        rt,
+        Thing::LinkToDirectory,
+        "disks_of_links/outside",
+        real.as_str(),
+    )?;
+    let failed = failed_calls(rt.alloc(), disks, dir)?;
+    fs::remove_file(rt, real.as_str())?;
+    Ok(failed == [true; 6] && is_kept(rt, "disks_of_links/outside")?)
 }
 
 #[test]
@@ -361,12 +407,7 @@ fn links_in_place_of_directories_are_not_followed(rt: HostRuntime) -> Result<(),
         "tmp",
     ];
     for dir in dirs {
-        let real = format!(in rt.alloc(); "disks_of_links/v1/current/bp1/{dir}")?;
-        fs::create_dir_all(&rt, real.as_str())?;
-        put(&rt, Thing::LinkToDirectory, outside, real.as_str())?;
-        assert_eq!(rt; failed_calls(rt.alloc(), &mut disks, dir)?, [true; 6]);
-        assert!(rt; is_kept(&rt, outside)?);
-        fs::remove_file(&rt, real.as_str())?;
+        assert!(rt; is_link_refused(&rt, &mut disks, dir)?);
     }
 
     fs::create_dir(&rt, "disks_of_links/v2")?;
