@@ -1,0 +1,10 @@
+pub mod Texts
+pub mod Steps
+pub mod Entries
+pub mod History
+pub mod Answers
+pub mod Standing
+pub mod Changes
+pub mod Cancelling
+pub mod Assigned
+pub mod Whole
