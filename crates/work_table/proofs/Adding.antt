@@ -1,8 +1,7 @@
 -- A table that stood for a history stands for it with one entry more.
-use Rattle.std.proofs.Common.{◌≡◌, ◌≢◌, ◌⊎◌, ℕ, ◌+◌, ◌-◌, ◌≤◌, ◌<◌, Bool, true, false, List, [], ◌∷◌, ◌++◌, length, map, set, get_or, inr, Option, Some, None, Result, Ok, Err, refl, ap, sym, subst, ◌∙◌, arith, rules, append_assoc}
+use Rattle.std.proofs.Common.{◌≡◌, ◌≢◌, ◌⊎◌, ℕ, ◌+◌, ◌-◌, ◌≤◌, false, List, [], ◌∷◌, ◌++◌, length, map, set, get_or, inr, Option, Some, None, Result, Ok, Err, refl, ap, sym, subst, ◌∙◌, arith, rules, append_assoc}
 use Rattle.std.specs.Prelude.{◌==◌, if◌then◌else◌, option_map}
 use Rattle.std.specs.List.{count_by}
-use Rattle.std.proofs.lemmas.Grind.{common_steps}
 use Rattle.plan_json.specs.declared.plan.Plan.{Plan}
 use Rattle.work_table.specs.declared.answers.SubmitFault.{SubmitFault}
 use Rattle.work_table.specs.declared.answers.SubmitFault.TheVariants.{Memory}
@@ -23,7 +22,7 @@ use Rattle.work_table.specs.Steps.{with_end, fresh_steps}
 use Rattle.work_table.specs.Entries.{is_accepted, end_given}
 use Rattle.work_table.specs.History.{Accepted, accepted, latest, work, work_at, work_of, planned_steps}
 use Rattle.work_table.specs.Answers.{submit_answer, cancel_answer, task_answer, count_answer}
-use Rattle.work_table.specs.Standing.{TableView, IsAnswered, AllAnswered, StandsFor, Adds}
+use Rattle.work_table.specs.Standing.{TableView, IsAnswered, AllAnswered, Adds}
 use Rattle.work_table.specs.Changes.{with_counted, with_steps}
 use Rattle.work_table.proofs.Snoc.{count-same, count-more, extended, latest-same, latest-new}
 use Rattle.work_table.proofs.Stepping.{LeavesStep, Makes, step-moved, step-erred, step-ended, steps-map, steps-same, steps-set, length-steps_after, steps-fresh}

@@ -1,14 +1,12 @@
 -- A plan's state is PLAN_CANCELLED exactly where a cancel found a step of it without an end.
-use Rattle.std.proofs.Common.{◌≡◌, ℕ, ◌+◌, ◌==◌, Bool, true, false, List, [], ◌∷◌, ◌++◌, map, Option, Some, None, Ok, Err, refl, ap, sym, ◌∙◌, subst, append_assoc}
+use Rattle.std.proofs.Common.{◌≡◌, ℕ, ◌+◌, ◌==◌, Bool, true, false, List, [], ◌∷◌, ◌++◌, map, Option, Some, None, Ok, Err, refl, ap, sym, ◌∙◌, append_assoc}
 use Rattle.std.specs.Prelude.{◌||◌, ◌&&◌, nat_lt, if◌then◌else◌}
 use Rattle.std.specs.List.{list_any, count_by}
 use Rattle.throttle.specs.Formulas.{bytes_left, with_tolerance}
 use Rattle.plan_json.specs.declared.step.PlanStep.{PlanStep}
 use Rattle.work_table.specs.declared.answers.Counted.TheVariants as what
 use Rattle.work_table.specs.declared.answers.CountEnd.TheVariants as count
-use Rattle.work_table.specs.declared.answers.TaskEnd.{TaskEnd}
 use Rattle.work_table.specs.declared.answers.TaskEnd.TheVariants as task
-use Rattle.work_table.specs.declared.plan_state.PlanState.{PlanState}
 use Rattle.work_table.specs.declared.plan_state.PlanState.TheVariants as state
 use Rattle.work_table.specs.declared.step_end.StepEnd.{StepEnd}
 use Rattle.work_table.specs.declared.step_end.StepEnd.TheVariants.{Open, Done, Cancelled, ErrorLimit, NoBlock}
@@ -18,9 +16,9 @@ use Rattle.work_table.specs.declared.entry.TableEntry.{TableEntry}
 use Rattle.work_table.specs.declared.entry.TableEntry.TheVariants.{Submit, Cancel, Task, Count}
 use Rattle.work_table.specs.Steps.{unless_open, is_open_end, is_cancelled_end, is_open, is_cancelled, with_end}
 use Rattle.work_table.specs.Entries.{is_accepted, end_given}
-use Rattle.work_table.specs.History.{Accepted, accepted, or_else, latest, first_end, step_after, steps_after, state_of, work_at, work, planned_steps}
+use Rattle.work_table.specs.History.{Accepted, accepted, or_else, latest, first_end, steps_after, state_of, work_at, work, planned_steps}
 use Rattle.work_table.specs.Answers.{task_for, task_from}
-use Rattle.work_table.specs.Standing.{TableView, IsAnswered, AllAnswered, StandsFor}
+use Rattle.work_table.specs.Standing.{IsAnswered, AllAnswered}
 use Rattle.work_table.specs.Cancelling.{is_cancel, has_open, finds_open, was_cancelled, CancelledWhileOpen}
 use Rattle.work_table.proofs.Snoc.{first_end-snoc}
 use Rattle.work_table.proofs.Stepping.{step-ended, steps-map}

@@ -1,10 +1,7 @@
-use Rattle.std.proofs.Common.{rules, ◌≡◌, ◌∙◌, sym, ap, arith, refl, map, Some, Ok, Err}
+use Rattle.std.proofs.Common.{rules, ◌∙◌, ap, refl}
 use Rattle.work_table.specs.declared.step_end.StepEnd.TheVariants.{Cancelled}
-use Rattle.work_table.specs.declared.work.Work.{Work}
 use Rattle.work_table.specs.Steps.{with_end}
-use Rattle.work_table.specs.Answers.{cancel_answer}
 use Rattle.work_table.specs.Standing.{TableView}
-use Rattle.work_table.specs.Changes.{with_steps}
 use Rattle.work_table.specs.Assigned.{assignments}
 use Rattle.work_table.proofs.Assigning.{map-assigned, end-assigned}
 use Rattle.work_table.proofs.Adding.{cancel-refused, cancel-done, Adds-from}

@@ -1,5 +1,4 @@
-use Rattle.std.proofs.Common.{rules, ◌≡◌, ◌-◌, ◌≤◌, ◌∙◌, length, sym, ap, arith, refl, set, get_or, Some, Ok, Err}
-use Rattle.work_table.specs.Answers.{count_answer}
+use Rattle.std.proofs.Common.{rules, ◌≡◌, ◌-◌, ◌≤◌, ◌∙◌, length, ap, refl, set, get_or}
 use Rattle.work_table.specs.Standing.{TableView}
 use Rattle.work_table.specs.Changes.{with_counted, with_steps}
 use Rattle.work_table.specs.Assigned.{assignments}

@@ -1,12 +1,10 @@
-use Rattle.std.proofs.Common.{rules, ◌≡◌, ◌+◌, ◌∙◌, sym, ap, subst, arith, refl, inl, inr, Some, Ok, Err, List, length, map, string_bytes}
+use Rattle.std.proofs.Common.{rules, ◌≡◌, ◌∙◌, sym, ap, subst, refl, inl, inr, Err, List, length, map, string_bytes}
 use Rattle.std.proofs.lemmas.List.{length-map}
-use Rattle.plan_json.specs.declared.step.PlanStep.{PlanStep}
 use Rattle.work_table.specs.declared.answers.SubmitFault.TheVariants.{InProgress, Memory}
 use Rattle.work_table.specs.declared.step_work.StepWork.{StepWork}
 use Rattle.work_table.specs.Steps.{fresh_steps}
-use Rattle.work_table.specs.History.{state_of, work_of}
-use Rattle.work_table.specs.Answers.{submit_answer}
-use Rattle.work_table.specs.Assigned.{Assigned, assigned, AreVolumes}
+use Rattle.work_table.specs.History.{state_of}
+use Rattle.work_table.specs.Assigned.{assigned, AreVolumes}
 use Rattle.std.specs.Prelude.{All}
 use Rattle.work_table.proofs.Assigning.{fresh-volumes}
 use Rattle.work_table.proofs.Stepping.{length-fresh_steps}

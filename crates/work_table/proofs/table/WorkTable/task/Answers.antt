@@ -1,5 +1,5 @@
-use Rattle.std.proofs.Common.{rules, ◌≡◌, ◌+◌, ◌-◌, ◌≤◌, ◌<◌, ◌∙◌, sym, ap, subst, arith, refl, length, set, get_or, position, Some, None, Ok, Err}
-use Rattle.work_table.specs.declared.answers.TaskEnd.TheVariants.{Idle, StepEnd}
+use Rattle.std.proofs.Common.{◌≡◌, ◌+◌, ◌-◌, ◌<◌, ◌∙◌, sym, ap, subst, arith, refl, length, set, get_or, position, Some, None}
+use Rattle.work_table.specs.declared.answers.TaskEnd.TheVariants.{Idle}
 use Rattle.work_table.specs.Steps.{is_open, with_end}
 use Rattle.work_table.specs.Answers.{task_answer, task_for}
 use Rattle.work_table.specs.Standing.{TableView}

@@ -1,0 +1,5 @@
+pub mod Rising
+pub mod Counting
+pub mod Books
+pub mod Kept
+pub mod Leftovers
