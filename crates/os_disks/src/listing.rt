@@ -6,12 +6,7 @@ use std::io::{ErrorKind, Result};
 
 /// The names of the files of a directory, in no order. Those of all else, as directories and links, are passed over. An
 /// absent directory has none. Neither it nor a directory that its path names behind its first `below` bytes is a link.
-pub fn file_names(
-    rt: &HostRuntime,
-    alloc: Global,
-    dir: &str,
-    below: usize,
-) -> Result<Vec<String>> {
+pub fn file_names(rt: &HostRuntime, alloc: Global, dir: &str, below: usize) -> Result<Vec<String>> {
     let mut names = Vec::new(alloc);
     if !has_way(rt, dir, below)? {
         return Ok(names);
