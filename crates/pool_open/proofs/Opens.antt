@@ -1,5 +1,5 @@
 -- An opening, from what its calls gave.
-use Rattle.std.proofs.Common.{◌≡◌, ◌≢◌, ◌⊎◌, inl, inr, ℕ, List, [], ◌∷◌, Option, None, Some, Contains, length, replicate, refl, ap, sym, ◌∙◌, subst, arith, IsTrue, IsSome, IfSome, option_map}
+use Rattle.std.proofs.Common.{◌≡◌, ◌≢◌, ◌⊎◌, inl, inr, ℕ, true, false, List, [], ◌∷◌, Option, None, Some, Contains, length, replicate, refl, ap, sym, ◌∙◌, subst, arith, IsTrue, IsSome, IfSome, option_map}
 use mathlib.Core.Path.{fun_ext}
 use Rattle.std.specs.Prelude.{IsSomeAnd, is_some}
 use Rattle.std.proofs.lemmas.Bool.{false≢true}
@@ -162,11 +162,11 @@ module _ (survey : Survey) (table : IsTable survey) (was : World) (surveyed : Is
 
   -- and is sound where the world is
   pub cleared_sound : (now : World) (image : Files) → Clears (plan_of survey) was now → Leaves now image → HasSoundFiles was → IsSound image
-  cleared_sound now image clears leaves matching id valid =
+  cleared_sound now image clears leaves matched id valid =
       let found = found_of survey.blocks id in
       let own = partly survey table was was surveyed (clears_none (plan_of survey) was) id valid in
       let as_now = partly survey table was now surveyed clears id valid in
-      let before : HasSoundCopies (Fits matching id) (files_in (view_of was id)) = subst (λ (files : BlockFiles). HasSoundCopies (Fits matching id) files) (shown_view was id surveyed.aside) (matching id valid) in
+      let before : HasSoundCopies (Fits matching id) (files_in (view_of was id)) = subst (λ (files : BlockFiles). HasSoundCopies (Fits matching id) files) (shown_view was id surveyed.aside) (matched id valid) in
       subst (λ (files : BlockFiles). HasSoundCopies (Fits matching id) files) (sym (image_files now image id (clears.aside surveyed.aside) leaves))
       (sound_partly (Fits matching id) found (view_of was id) (view_of now id) own as_now before)
 

@@ -56,7 +56,7 @@ world_reads world image aside leaves id valid replica reads =
 pub world_reads_back : (world : World) (image : Files) → DraftsAside world → Leaves world image → ReadsBack world image
 world_reads_back world image aside leaves = record {
   alike = world_reads world image aside leaves;
-  sound = λ matching id valid. subst (λ (files : BlockFiles). HasSoundCopies (Fits matching id) files) (shown_view world id aside ∙ sym (image_files world image id aside leaves)) (matching id valid);
+  sound = λ matched id valid. subst (λ (files : BlockFiles). HasSoundCopies (Fits matching id) files) (shown_view world id aside ∙ sym (image_files world image id aside leaves)) (matched id valid);
   whole = λ own id valid. subst (λ (files : BlockFiles). (spot : Spot) (replica : Replica) → IsCopy files spot replica → IsAlone files spot)
       (shown_view world id aside ∙ sym (image_files world image id aside leaves)) (own id valid);
 }

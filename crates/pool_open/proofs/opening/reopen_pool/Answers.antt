@@ -13,19 +13,19 @@ use Rattle.pool_open.proofs.opening.reopen_pool.Goals as goal
 pub returns-in-Err-Failed-clause-images : goal.returns-in-Err-Failed-clause-images
 returns-in-Err-Failed-clause-images g c =
     let looks = looked g.D.PoolDisks c.args.pool.now.disks c.survey_volume.new.disks
-    c.survey_volume.ensures.looks c.survey_volume.ensures.honest c.survey_volume.ensures.cause.later c.survey_volume.ensures.numbers c.survey_volume.ensures.volumes c.survey_volume.ensures.time in
+    c.survey_volume.ensures.looks c.survey_volume.ensures.honest c.survey_volume.ensures.cause.later c.survey_volume.ensures.absences c.survey_volume.ensures.numbers c.survey_volume.ensures.volumes c.survey_volume.ensures.time in
     looked_images g.D.PoolDisks c.args.pool.now.disks c.survey_volume.new.disks looks c.requires.aside
 
 pub returns-in-Err-Memory-clause-images : goal.returns-in-Err-Memory-clause-images
 returns-in-Err-Memory-clause-images g c =
     let looks = looked g.D.PoolDisks c.args.pool.now.disks c.survey_volume.new.disks
-    c.survey_volume.ensures.looks c.survey_volume.ensures.honest c.survey_volume.ensures.cause.later c.survey_volume.ensures.numbers c.survey_volume.ensures.volumes c.survey_volume.ensures.time in
+    c.survey_volume.ensures.looks c.survey_volume.ensures.honest c.survey_volume.ensures.cause.later c.survey_volume.ensures.absences c.survey_volume.ensures.numbers c.survey_volume.ensures.volumes c.survey_volume.ensures.time in
     looked_images g.D.PoolDisks c.args.pool.now.disks c.survey_volume.new.disks looks c.requires.aside
 
 pub returns-in-Some-clause-images : goal.returns-in-Some-clause-images
 returns-in-Some-clause-images g c =
     let looks = looked g.D.PoolDisks c.args.pool.now.disks c.survey_volume.new.disks
-    c.survey_volume.ensures.looks c.survey_volume.ensures.honest c.survey_volume.ensures.cause.later c.survey_volume.ensures.numbers c.survey_volume.ensures.volumes c.survey_volume.ensures.time in
+    c.survey_volume.ensures.looks c.survey_volume.ensures.honest c.survey_volume.ensures.cause.later c.survey_volume.ensures.absences c.survey_volume.ensures.numbers c.survey_volume.ensures.volumes c.survey_volume.ensures.time in
     looked_images g.D.PoolDisks c.args.pool.now.disks c.survey_volume.new.disks looks c.requires.aside
 
 pub returns-in-Some-clause-two_metas : goal.returns-in-Some-clause-two_metas
@@ -36,21 +36,21 @@ returns-in-Some-clause-two_metas g c is image leaves =
 pub returns-in-Err-Failed-make_books-clause-images : goal.returns-in-Err-Failed-make_books-clause-images
 returns-in-Err-Failed-make_books-clause-images g c =
     let looks = looked g.D.PoolDisks c.args.pool.now.disks c.survey_volume.new.disks
-    c.survey_volume.ensures.looks c.survey_volume.ensures.honest c.survey_volume.ensures.cause.later c.survey_volume.ensures.numbers c.survey_volume.ensures.volumes c.survey_volume.ensures.time in
+    c.survey_volume.ensures.looks c.survey_volume.ensures.honest c.survey_volume.ensures.cause.later c.survey_volume.ensures.absences c.survey_volume.ensures.numbers c.survey_volume.ensures.volumes c.survey_volume.ensures.time in
     let both = looks_then g.D.PoolDisks c.args.pool.now.disks c.survey_volume.new.disks c.make_books.new.disks looks c.make_books.ensures.looks in
     looked_images g.D.PoolDisks c.args.pool.now.disks c.make_books.new.disks both c.requires.aside
 
 pub returns-in-Err-Memory-make_books-clause-images : goal.returns-in-Err-Memory-make_books-clause-images
 returns-in-Err-Memory-make_books-clause-images g c =
     let looks = looked g.D.PoolDisks c.args.pool.now.disks c.survey_volume.new.disks
-    c.survey_volume.ensures.looks c.survey_volume.ensures.honest c.survey_volume.ensures.cause.later c.survey_volume.ensures.numbers c.survey_volume.ensures.volumes c.survey_volume.ensures.time in
+    c.survey_volume.ensures.looks c.survey_volume.ensures.honest c.survey_volume.ensures.cause.later c.survey_volume.ensures.absences c.survey_volume.ensures.numbers c.survey_volume.ensures.volumes c.survey_volume.ensures.time in
     let both = looks_then g.D.PoolDisks c.args.pool.now.disks c.survey_volume.new.disks c.make_books.new.disks looks c.make_books.ensures.looks in
     looked_images g.D.PoolDisks c.args.pool.now.disks c.make_books.new.disks both c.requires.aside
 
 pub returns-in-Err-clause-images : goal.returns-in-Err-clause-images
 returns-in-Err-clause-images g c =
     let looks = looked g.D.PoolDisks c.args.pool.now.disks c.survey_volume.new.disks
-    c.survey_volume.ensures.looks c.survey_volume.ensures.honest c.survey_volume.ensures.cause.later c.survey_volume.ensures.numbers c.survey_volume.ensures.volumes c.survey_volume.ensures.time in
+    c.survey_volume.ensures.looks c.survey_volume.ensures.honest c.survey_volume.ensures.cause.later c.survey_volume.ensures.absences c.survey_volume.ensures.numbers c.survey_volume.ensures.volumes c.survey_volume.ensures.time in
     let both = looks_then g.D.PoolDisks c.args.pool.now.disks c.survey_volume.new.disks c.make_books.new.disks looks c.make_books.ensures.looks in
     looked_images g.D.PoolDisks c.args.pool.now.disks c.make_books.new.disks both c.requires.aside
 
