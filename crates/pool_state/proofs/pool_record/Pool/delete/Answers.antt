@@ -28,4 +28,5 @@ returns-in-Writing-clause-step g c cells stands =
     takes (cells c.args.id) (writes_here stands c.args.id c.find.ensures.valid c.in-Some.entry (sym c.find.ensures.entry ∙ c.in-Some.is) c.in-Writing.block c.in-Writing.meta c.in-Writing.is)
     (λ e. absurd cc, λ e. absurd cc)
     (λ known old. (stands_same _ _ _ _ _ _ _ _ known cells c.args.id old refl refl (λ other. refl) (λ other. refl), begins _ _)) stands
+
 -- timed imp

@@ -32,4 +32,5 @@ returns-in-Err-clause-step g c cells stands =
           c.remove_files.ensures.removes.some c.set_state.ensures.changed,
       adds_removals old c.args.id valid c.remove_files.ensures.removes (unsure (Some replica.0) None false) (final_passes_doubt old c.args.id valid e c.requires.entry c.requires.state replica.0 replica.1),
     )) stands
+
 -- timed imp

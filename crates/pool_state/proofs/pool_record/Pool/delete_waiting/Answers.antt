@@ -23,4 +23,5 @@ returns-in-Err-clause-step g c cells stands =
     let waits = waiting_of stands c.args.id c.clean.ensures.valid c.args.entry.now c.requires.entry c.args.block c.args.meta c.requires.state in
     quiet_failure c.args.id (c.clean.ensures.quiet cells stands) (subst (λ cell. Step unlimited cell delete failed cell) (sym waits) (inl refl))
     (λ is. waits ∙ sym (ap half_deleted waits), λ e. absurd cc)
+
 -- timed imp
