@@ -91,6 +91,6 @@ module _ {id : ℕ} {command : Command} {answer : Answer} {SaysOf : Cell → Typ
   }
 
 -- where metas that match still do
-pub safe_then : {before after : Cells} {Sound : Cells → Type 0} {StandsFor : Knowledge → Cells → Type 0} {past since : ℕ → Files → Type 0} {then : Knowledge} → then ≡ matching →
+pub safe_then : {before after : Cells} {Sound : Cells → Type 0} (StandsFor : Knowledge → Cells → Type 0) {past since : ℕ → Files → Type 0} {then : Knowledge} → then ≡ matching →
     CrashSafe before after Sound (StandsFor then) past since → CrashSafe before after Sound (StandsFor matching) past since
-safe_then {before} {after} {Sound} {StandsFor} {past} {since} same safe = subst (λ (k : Knowledge). CrashSafe before after Sound (StandsFor k) past since) same safe
+safe_then {before} {after} {Sound} StandsFor {past} {since} same safe = subst (λ (k : Knowledge). CrashSafe before after Sound (StandsFor k) past since) same safe

@@ -35,10 +35,10 @@ fill_step {told} {volumes} {entries} {found} {cells} id stamp piece w belongs sa
     ap cells same_id ∙ grows ∙ ap (λ n. growing stamp None [] n) rest ∙ ap (λ s. growing s None [] (w.reserved - w.len)) (sym same_stamp) in
     at_block_steps same_id (pushes told volumes entries found cells w [] piece stamp (length piece) (length piece) belongs at (omega (arith, rest)) (sym same_stamp) (omega (arith, none)) (sym full))
 
-pub says_end : (trust : Trust) {metas : ℕ → List ℕ} (reply : OpReply) (said : Reply) → said ≡ end_reply reply → Says trust metas (op_answer reply) said
-says_end trust EndsOk said is = is
-says_end trust EndsFailed said is = is
-says_end trust EndsMemory said is = is
+pub says_end : (trust : Trust) (metas : ℕ → List ℕ) (reply : OpReply) (said : Reply) → said ≡ end_reply reply → Says trust metas (op_answer reply) said
+says_end trust metas EndsOk said is = is
+says_end trust metas EndsFailed said is = is
+says_end trust metas EndsMemory said is = is
 
 pub end_gives_nothing : (reply : OpReply) → IsContent (op_answer reply) → ⊥
 end_gives_nothing EndsOk gives = gives

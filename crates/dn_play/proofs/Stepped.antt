@@ -42,8 +42,8 @@ says_refusal trust metas WasUnsure = refl
 says_refusal trust metas HasFailed = refl
 says_refusal trust metas NoMemory = refl
 
-pub says_fault : (trust : Trust) {metas : ℕ → List ℕ} (fault : StartFault) (reply : Reply) → reply ≡ refusal_reply fault → Says trust metas (start_fault fault) reply
-says_fault trust {metas} fault reply is = subst (Says trust metas (start_fault fault)) (sym is) (says_refusal trust metas fault)
+pub says_fault : (trust : Trust) (metas : ℕ → List ℕ) (fault : StartFault) (reply : Reply) → reply ≡ refusal_reply fault → Says trust metas (start_fault fault) reply
+says_fault trust metas fault reply is = subst (Says trust metas (start_fault fault)) (sym is) (says_refusal trust metas fault)
 
 -- and gives no replica
 pub start_gives_nothing : (fault : StartFault) → IsContent (start_fault fault) → ⊥
@@ -345,8 +345,8 @@ says_deletion trust metas NotThere = refl
 says_deletion trust metas IsWrittenNow = refl
 says_deletion trust metas RemovalFailed = refl
 
-pub says_delete : (trust : Trust) {metas : ℕ → List ℕ} (fault : DeleteFault) (reply : Reply) → reply ≡ deletion_reply fault → Says trust metas (delete_fault fault) reply
-says_delete trust {metas} fault reply is = subst (Says trust metas (delete_fault fault)) (sym is) (says_deletion trust metas fault)
+pub says_delete : (trust : Trust) (metas : ℕ → List ℕ) (fault : DeleteFault) (reply : Reply) → reply ≡ deletion_reply fault → Says trust metas (delete_fault fault) reply
+says_delete trust metas fault reply is = subst (Says trust metas (delete_fault fault)) (sym is) (says_deletion trust metas fault)
 
 pub delete_not_failed : (fault : DeleteFault) → (fault ≡ RemovalFailed → ⊥) → delete_fault fault ≡ failed → ⊥
 delete_not_failed NotThere never same = cc

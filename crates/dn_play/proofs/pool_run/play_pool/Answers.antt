@@ -24,12 +24,12 @@ returns-in-Err-Later-clause-runs g c =
     (λ e. absurd (cc e)) (λ e image holds. left_start _ _ image holds (o.ensures.unchanged o.disks (ap Err o.field-0-is)) (g.met.D.PoolDisks.is_disk o.disks).some (subst (λ d. IsSome (g.D.PoolDisks.worlds c.args.disks) → IsSome (g.D.PoolDisks.worlds d)) (ap fault_disks o.field-0-is) o.ensures.goes_on.honest.0) (o.ensures.two_metas o.disks (ap Err o.field-0-is) image)) o.ensures.images
 
 pub play_lines-ending-requires : goal.play_lines-ending-requires
-play_lines-ending-requires g c = record { one_volume = c.in-Ok.ensures.goes_on.volume_count ∙ c.requires.one_volume; stands = (first_of c.in-Ok.ensures.opened.cells, stands_first _ c.in-Ok.ensures.opened (λ id. ap (option_map (writer_of g.D.Draft.Draft.place g.D.Draft.Draft.bytes)) (c.new.ensures id))) }
+play_lines-ending-requires g c = record { one_volume = c.in-Ok.ensures.goes_on.volume_count ∙ c.requires.one_volume; stands = (first_of c.in-Ok.ensures.opened.cells c.in-Ok.ensures.opened.metas, stands_first _ c.in-Ok.ensures.opened (λ id. ap (option_map (writer_of g.D.Draft.Draft.place g.D.Draft.Draft.bytes)) (c.new.ensures id))) }
 
 pub returns-clause-runs : goal.returns-clause-runs
 returns-clause-runs g c =
     let opens = c.in-Ok.ensures.opened in
     let standing = stands_first _ opens (λ id. ap (option_map (writer_of g.D.Draft.Draft.place g.D.Draft.Draft.bytes)) (c.new.ensures id)) in
     runs_so g.D.PoolDisks _ _ (g.met.D.PoolDisks.only_now c.args.disks) c.in-Ok.pool.disks _ _ _ _ _ _ c.close_pool.ensures c.in-Ok.ensures.goes_on opens (g.met.D.PoolDisks.only_now c.in-Ok.pool.disks)
-    (c.play_lines-ending.ensures.played (first_of opens.cells) standing)
+    (c.play_lines-ending.ensures.played (first_of opens.cells opens.metas) standing)
     c.play_lines-ending.ensures.of_lines (λ image holds. c.in-Ok.ensures.one_meta image holds refl) c.in-Ok.ensures.images c.play_lines-ending.ensures.two_metas

@@ -11,9 +11,12 @@ use Rattle.dn_play.proofs.session.Session.delete.Goals as goal
 pub returns-in-Some-clause-step : goal.returns-in-Some-clause-step
 returns-in-Some-clause-step g c state standing =
     let fault = c.in-Some.fault in
-    carried_same standing (crash_same _ _ _) (delete_fault fault) (λ trust known. says_delete trust fault _ c.delete_refusal_of.ensures)
+    carried_same standing (crash_same _ _ _) (delete_fault fault) (λ trust known. says_delete trust (state.metas c.args.id) fault _ c.delete_refusal_of.ensures)
     (c.in-Some.ensures.refused state.cells (loose standing))
     (λ e. absurd (delete_not_failed fault c.in-Some.ensures.not_failed e)) (λ e w. absurd (delete_not_memory fault e)) refl refl (λ no. absurd (delete_gives_nothing fault no))
+
+pub delete-requires : goal.delete-requires
+delete-requires g c = record { stands = (_, loose c.requires.stands.1) }
 
 pub returns-in-Ok-clause-step : goal.returns-in-Ok-clause-step
 returns-in-Ok-clause-step g c state standing =
@@ -40,5 +43,5 @@ returns-in-Err-clause-step g c state standing =
     (goes_on standing id t.to.cell state.writers (t.to.stands _ standing.pool) c.delete.ensures.goes_on.honest.1 c.delete.ensures.others (λ other apart. refl) (λ other apart. refl)
     (subst (λ o. MatchOption o (NotGrowing t.to.cell) (OpenWriter (g.D.PoolDisks.worlds c.delete.new.self.disks) (entry_at c.delete.new.self.map) id t.to.cell (state.writers id))) (sym none)
     (subst NotGrowing (sym left) (deleted_rests (state.cells id) free))))
-    (crash_takes t) (delete_fault fault) (λ trust known. says_delete trust fault _ c.delete_refusal_of-in-Err.ensures) t.to.step
+    (crash_takes t) (delete_fault fault) (λ trust known. says_delete trust (state.metas c.args.id) fault _ c.delete_refusal_of-in-Err.ensures) t.to.step
     (λ e. (c.in-Err.ensures.failed (ap Err is), left)) (λ e w. absurd (delete_not_memory fault e)) refl refl (λ no. absurd (delete_gives_nothing fault no))

@@ -19,6 +19,9 @@ returns-in_default-clause-step g c state standing =
     carried_same same (crash_same _ _ _) no_writer (λ trust known. refl)
     (no_drop (state.cells id) (no_writer_of_block _ _ _ (ap (option_map f) absent) (standing.writer id c.remove.ensures.valid))) (λ e. absurd cc) (λ e w. absurd cc) refl refl (λ no. absurd no)
 
+pub drop_write-requires-clause-stands : goal.drop_write-requires-clause-stands
+drop_write-requires-clause-stands g c = (_, loose c.requires.stands.1)
+
 pub drop_write-requires-clause-belongs : goal.drop_write-requires-clause-belongs
 drop_write-requires-clause-belongs g c =
     let f = writer_of g.D.Draft.Draft.place g.D.Draft.Draft.bytes in

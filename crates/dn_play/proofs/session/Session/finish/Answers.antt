@@ -41,6 +41,9 @@ seal-requires g c =
     let at = writer_of_block _ _ _ (f w) (ap (option_map f) c.in-Ok.ensures.ok) (c.requires.stands.1.writer c.args.id c.take.ensures.valid) in
     record { whole = has_meta g.D.Draft.Draft.place w.meta _ at.stands.meta }
 
+pub finish-requires-clause-stands : goal.finish-requires-clause-stands
+finish-requires-clause-stands g c = (_, loose c.requires.stands.1)
+
 pub finish-requires-clause-belongs : goal.finish-requires-clause-belongs
 finish-requires-clause-belongs g c =
     let f = writer_of g.D.Draft.Draft.place g.D.Draft.Draft.bytes in

@@ -15,7 +15,7 @@ use Rattle.dn_play.proofs.session.Session.open.Goals as goal
 pub returns-in-Some-clause-step : goal.returns-in-Some-clause-step
 returns-in-Some-clause-step g c state standing =
     let fault = c.in-Some.fault in
-    carried_same standing (crash_same _ _ _) (start_fault fault) (λ trust known. says_fault trust fault _ c.refusal_of.ensures)
+    carried_same standing (crash_same _ _ _) (start_fault fault) (λ trust known. says_fault trust (state.metas c.args.id) fault _ c.refusal_of.ensures)
     (c.in-Some.ensures.refused state.cells c.args.stamp c.args.need (loose standing))
     (λ e. absurd (c.in-Some.ensures.not_a_fault.0 (is_failed fault e))) (λ e w. absurd (c.in-Some.ensures.not_a_fault.1 (is_memory fault e)))
     (begins_nothing c.args.stamp c.args.need fault) refl (λ no. absurd (start_gives_nothing fault no))
@@ -26,6 +26,9 @@ returns-in-Err-clause-step g c state standing =
     carried_same (stays_on standing standing.pool (λ t. t) (λ id. refl) (seen_same (writer_of g.D.Draft.Draft.place g.D.Draft.Draft.bytes) _ _ c.make_room.ensures.same))
     (crash_same _ _ _) memory (λ trust known. refl) (c.write_refusal.ensures.memory state.cells c.args.stamp c.args.need (omega arith) (loose standing) c.in_default.is)
     (λ e. absurd cc) (λ e w. absurd (let bad : Rattle.map_model.specs.Cells.absent ≡ Rattle.map_model.specs.Cells.waiting = sym is_absent ∙ w in cc)) refl refl (λ no. absurd no)
+
+pub start_write-requires : goal.start_write-requires
+start_write-requires g c = record { stands = (_, loose c.requires.stands.1) }
 
 pub returns-in-Err-start_write-clause-step : goal.returns-in-Err-start_write-clause-step
 returns-in-Err-start_write-clause-step g c state standing =
@@ -39,7 +42,7 @@ returns-in-Err-start_write-clause-step g c state standing =
     (goes_on standing c.args.id t.to.cell state.writers (t.to.stands _ standing.pool) c.in-Err-start_write.ensures.goes_on.honest.1 c.in-Err-start_write.ensures.others
     (λ other apart. seen_same f _ _ c.make_room.ensures.same other) (λ other apart. refl)
     (subst (λ o. MatchOption o (NotGrowing t.to.cell) (OpenWriter (g.D.PoolDisks.worlds c.start_write.new.self.disks) (Rattle.pool_state.specs.Books.entry_at c.start_write.new.self.map) c.args.id t.to.cell (state.writers c.args.id))) (sym (seen_same f _ _ c.make_room.ensures.same c.args.id ∙ none)) rests))
-    (crash_takes t) (start_fault fault) (λ trust known. says_fault trust fault _ c.refusal_of-in-Err-start_write.ensures) t.to.step
+    (crash_takes t) (start_fault fault) (λ trust known. says_fault trust (state.metas c.args.id) fault _ c.refusal_of-in-Err-start_write.ensures) t.to.step
     (λ e. (c.in-Err-start_write.ensures.failed (ap Err (is_failed fault e)), t.to.says.0 (ap Err (is_failed fault e))))
     (λ e w. t.to.says.1 (ap Err (is_memory fault e)) w) (begins_nothing c.args.stamp c.args.need fault) refl (λ no. absurd (start_gives_nothing fault no))
 

@@ -2,6 +2,7 @@ use Rattle.std.proofs.Common.{true, ◌≡◌, ◌-◌, ◌++◌, inl, inr, Some
 use Rattle.std.specs.Prelude.{MatchOption, IsSome}
 use Rattle.std.proofs.lemmas.Option.{same_Some}
 use Rattle.map_model.specs.Cells.{growing}
+use Rattle.map_model.specs.Sound.{matching}
 use Rattle.map_model.specs.Steps.{Step, push, done, failed, memory, over, no_writer}
 use Rattle.pool_state.specs.Answers.{unlimited, StepsTo}
 use Rattle.pool_state.specs.Books.{entry_at, found_at}

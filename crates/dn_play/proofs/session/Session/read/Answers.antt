@@ -7,13 +7,16 @@ use Rattle.dn_play.proofs.Stepping.{loose, crash_rests, stays_on, carried_same}
 use Rattle.dn_play.proofs.Stepped.{start_gives_nothing, says_fault, is_failed, no_lack, reads_content, reads_failed, reads_memory, not_waiting, gives_data, gives_verdict, faulty_reader}
 use Rattle.dn_play.proofs.session.Session.read.Goals as goal
 
+pub start_read-requires : goal.start_read-requires
+start_read-requires g c = record { stands = (_, loose c.requires.stands.1) }
+
 pub returns-in-Err-clause-step : goal.returns-in-Err-clause-step
 returns-in-Err-clause-step g c state standing =
     let fault = c.in-Err.fault in
     let step = c.in-Err.ensures.refused state.cells (loose standing) in
     carried_same (stays_on standing ((c.start_read.ensures.quiet state.cells (loose standing)).stands _ standing.pool) c.start_read.ensures.goes_on.honest.1 (λ id. ap (λ m. entry_at m id) c.start_read.ensures.map) (λ id. refl))
     (crash_rests (c.start_read.ensures.quiet state.cells (loose standing)))
-    (start_fault fault) (λ trust known. says_fault trust fault _ c.refusal_of.ensures) step
+    (start_fault fault) (λ trust known. says_fault trust (state.metas c.args.id) fault _ c.refusal_of.ensures) step
     (λ e. inl (c.in-Err.ensures.failed (ap Err (is_failed fault e))))
     (λ e w. absurd (no_lack (state.cells c.args.id) (subst (λ a. Step unlimited (state.cells c.args.id) read a (state.cells c.args.id)) e step) w)) refl refl (λ no. absurd (start_gives_nothing fault no))
 

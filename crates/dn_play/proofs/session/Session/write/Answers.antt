@@ -15,7 +15,7 @@ use Rattle.dn_play.specs.Standing.{NotGrowing, OpenWriter}
 use Rattle.dn_play.proofs.Stepping.{loose, with_cell-here, crash_takes, crash_same, goes_on, none_open, carried_same, carried_learning, carried_on, made_number}
 use Rattle.dn_play.proofs.Stepped.{start_gives_nothing, says_fault, is_failed, is_memory, write_learns_nothing, write_refused, write_unstarted, faulty_writer, has_meta, write_begins_nothing}
 use Rattle.dn_play.proofs.Composing.{safe_then, grows_started, grows_pushed, ended_stands, ended_safe}
-use Rattle.map_model.specs.Sound.{Knowledge}
+use Rattle.map_model.specs.Sound.{Knowledge, nothing}
 use Rattle.dn_play.proofs.Ended.{end_gives_nothing, end_knows, fill_step, says_end, ends_failed, end_rests, fails_write}
 use Rattle.dn_play.proofs.Progress.{rose_from}
 use Rattle.dn_play.proofs.session.Session.write.Goals as goal
@@ -23,11 +23,14 @@ use Rattle.dn_play.proofs.session.Session.write.Goals as goal
 pub returns-in-Some-clause-step : goal.returns-in-Some-clause-step
 returns-in-Some-clause-step g c state standing =
     let fault = c.in-Some.fault in
-    carried_same standing (crash_same _ _ _) (start_fault fault) (λ trust known. says_fault trust fault _ c.refusal_of.ensures)
+    carried_same standing (crash_same _ _ _) (start_fault fault) (λ trust known. says_fault trust (state.metas c.args.id) fault _ c.refusal_of.ensures)
     (write_refused (state.cells c.args.id) c.args.stamp c.args.piece.now fault (omega arith) c.in-Some.ensures.not_a_fault.0 c.in-Some.ensures.not_a_fault.1
     (c.in-Some.ensures.refused state.cells c.args.stamp (length c.args.piece.now) (loose standing)))
     (λ e. absurd (c.in-Some.ensures.not_a_fault.0 (is_failed fault e))) (λ e w. absurd (c.in-Some.ensures.not_a_fault.1 (is_memory fault e))) refl
     (write_learns_nothing c.args.stamp c.args.piece.now fault state.metas c.args.id (state.cells c.args.id) (λ e. absurd (c.in-Some.ensures.not_a_fault.0 e))) (λ no. absurd (start_gives_nothing fault no))
+
+pub write_start-requires : goal.write_start-requires
+write_start-requires g c = record { stands = (_, loose c.requires.stands.1) }
 
 pub returns-in-Err-clause-step : goal.returns-in-Err-clause-step
 returns-in-Err-clause-step g c state standing =
@@ -39,7 +42,7 @@ returns-in-Err-clause-step g c state standing =
     carried_on t.to.cell
     (goes_on standing c.args.id t.to.cell state.writers (t.to.stands _ standing.pool) c.in-Err.ensures.goes_on.honest.1 c.in-Err.ensures.others (λ other apart. refl) (λ other apart. refl)
     (subst (λ o. MatchOption o (NotGrowing t.to.cell) (OpenWriter (g.D.PoolDisks.worlds c.write_start.new.pool.disks) (entry_at c.write_start.new.pool.map) c.args.id t.to.cell (state.writers c.args.id))) (sym none) rests))
-    (crash_takes t) (start_fault fault) (λ trust known. says_fault trust fault _ c.refusal_of-in-Err.ensures)
+    (crash_takes t) (start_fault fault) (λ trust known. says_fault trust (state.metas c.args.id) fault _ c.refusal_of-in-Err.ensures)
     (write_unstarted (state.cells c.args.id) c.args.stamp c.args.piece.now fault t.to.cell is_absent (omega arith) (t.to.says.2 refl) t.to.step)
     (λ e. subst (FailsBy (faulty_of g.D.Draft.Draft g.D.Reader.Reader) (mark_of g.D.PoolDisks c.args.self.now.pool.disks) (mark_of g.D.PoolDisks c.write_start.new.pool.disks) (state.writers c.args.id) (state.cells c.args.id) (write c.args.stamp c.args.piece.now))
     (sym (t.to.says.0 (ap Err (is_failed fault e)))) (inl (c.in-Err.ensures.failed (ap Err (is_failed fault e))), refl))
@@ -53,7 +56,7 @@ pub op_end-requires-clause-stands : goal.op_end-requires-clause-stands
 op_end-requires-clause-stands g c =
     let some = c.requires.stands in
     let t = c.in-Ok.ensures.step some.0.cells (loose some.1) in
-    (_, t.to.stands _ some.1.pool)
+    (_, t.to.stands nothing (loose some.1))
 
 pub op_end-requires-clause-belongs : goal.op_end-requires-clause-belongs
 op_end-requires-clause-belongs g c = (_, _, c.args.piece.now, c.op_fill-filled.ensures.stands _ _ c.in-Ok.ensures.writer)
@@ -76,7 +79,7 @@ returns-clause-step g c state standing =
     let fill = c.op_fill-filled.ensures.stands _ _ belongs in
     let filled = subst (λ n. FillStands g.D.Draft.Draft.place g.D.Draft.Draft.bytes g.D.Sealed.SealedDraft.place g.D.Sealed.SealedDraft.bytes (g.D.PoolDisks.worlds c.write_start.new.pool.disks) (entry_at c.write_start.new.pool.map) n stamp piece c.op_fill-filled.result) what.0
     (subst (λ n. FillStands g.D.Draft.Draft.place g.D.Draft.Draft.bytes g.D.Sealed.SealedDraft.place g.D.Sealed.SealedDraft.bytes (g.D.PoolDisks.worlds c.write_start.new.pool.disks) (entry_at c.write_start.new.pool.map) w.id n piece c.op_fill-filled.result) what.1 fill) in
-    let end = c.op_end.ensures.step (with_cell state.cells id p.cell) id stamp (length piece - length piece) piece (two.stands _ standing.pool) filled (with_cell-here state.cells id p.cell ∙ p.says) in
+    let end = c.op_end.ensures.step (with_cell state.cells id p.cell) id stamp (length piece - length piece) piece (two.stands nothing (loose standing)) filled (with_cell-here state.cells id p.cell ∙ p.says) in
     let fault = fill_fault c.op_fill-filled.result in
     let reply = c.op_end.result in
     let knows = end_knows fault reply stamp piece end.takes.to.cell id end.learn state.metas end.learns end.takes.to.says in
@@ -92,7 +95,7 @@ returns-clause-step g c state standing =
     (goes_on standing id e.to.cell state.writers (subst (λ (k : Knowledge). Stands c.op_end.new.pool k (with_cell state.cells id e.to.cell)) knows.is (ended_stands two e _ standing.pool))
     (λ x. c.write_start.ensures.goes_on.honest.1 (c.op_end.ensures.goes_on.honest.1 x)) (λ other apart. c.op_end.ensures.others id stamp piece filled other apart ∙ c.write_start.ensures.others other apart) (λ other apart. refl) (λ other apart. refl)
     (subst (λ o. MatchOption o (NotGrowing e.to.cell) (OpenWriter (g.D.PoolDisks.worlds c.op_end.new.pool.disks) (entry_at c.op_end.new.pool.map) id e.to.cell (state.writers id))) (sym none) (end_rests fault reply stamp piece e.to.cell leaves)))
-    (safe_then knows.matching_stays (ended_safe two e stamp (length piece - length piece) piece is_absent p.says)) (op_answer reply) (λ trust known. says_end trust reply _ c.end_reply_of.ensures)
+    (safe_then (λ (k : Knowledge). Stands c.op_end.new.pool k) knows.matching_stays (ended_safe two e stamp (length piece - length piece) piece is_absent p.says)) (op_answer reply) (λ trust known. says_end trust (state.metas id) reply _ c.end_reply_of.ensures)
     (subst (λ cell. Step unlimited cell (write stamp piece) (op_answer reply) e.to.cell) (sym is_absent) (ends_as_write fault reply stamp piece e.to.cell (omega arith) leaves))
     (λ same. fails_write (faulty_of g.D.Draft.Draft g.D.Reader.Reader)
     (mark_of g.D.PoolDisks c.args.self.now.pool.disks) (mark_of g.D.PoolDisks c.op_end.new.pool.disks)
