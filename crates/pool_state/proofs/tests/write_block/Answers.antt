@@ -1,6 +1,7 @@
 use Rattle.std.proofs.Common.{◌≡◌, ◌-◌, ◌∙◌, sym, ap, false, None, [], option_map}
 use Rattle.std.specs.Result.{is_err, is_ok}
 use Rattle.map_model.specs.Cells.{growing}
+use Rattle.map_model.specs.Sound.{nothing}
 use Rattle.pair_draft.specs.Writers.{writer_of}
 use Rattle.pool_state.specs.Books.{found_at}
 use Rattle.pool_state.specs.Stands.{with_cell}
@@ -60,10 +61,10 @@ returns-in-Ok-finish g c =
     let grown = pushes _ _ _ (found_at c.start_write.new.self.map) (with_cell cells c.args.id started.to.cell) (writer_of g.D.Draft.Draft.place g.D.Draft.Draft.bytes w) [] piece new.stamp new.len new.reserved
     written grows (at_ok c.push.result not_err c.push.ensures.within) keeps.stamp (at_ok c.push.result not_err c.push.ensures.len) keeps.reserved in
     let left = new.reserved - new.len in
-    let ended = c.finish.ensures.step (with_cell (with_cell cells c.args.id started.to.cell) w.id grown.cell) piece left (grown.stands _ (started.to.stands _ c.requires.stands.1)) pair
+    let ended = c.finish.ensures.step (with_cell (with_cell cells c.args.id started.to.cell) w.id grown.cell) piece left pair (grown.stands _ (started.to.stands _ c.requires.stands.1))
     (own_cell (with_cell cells c.args.id started.to.cell) w.id c.in-Ok.pair.id grown.cell (sealed.id ∙ keeps.id)
     ∙ grown.says ∙ ap (λ s. growing s None piece left) (sym sealed.stamp)) in
-    record { stands = (with_cell (with_cell (with_cell cells c.args.id started.to.cell) w.id grown.cell) c.in-Ok.pair.id ended.to.cell, ended.to.stands _ (grown.stands _ (started.to.stands _ c.requires.stands.1))) }
+    record { stands = (with_cell (with_cell (with_cell cells c.args.id started.to.cell) w.id grown.cell) c.in-Ok.pair.id ended.to.cell, ended.to.stands nothing (grown.stands _ (started.to.stands _ c.requires.stands.1))) }
 
 pub returns-in-Err : goal.returns-in-Err
 returns-in-Err g c =
@@ -85,7 +86,7 @@ returns-in-Err g c =
     let grown = pushes _ _ _ (found_at c.start_write.new.self.map) (with_cell cells c.args.id started.to.cell) (writer_of g.D.Draft.Draft.place g.D.Draft.Draft.bytes w) [] piece new.stamp new.len new.reserved
     written grows (at_ok c.push.result not_err c.push.ensures.within) keeps.stamp (at_ok c.push.result not_err c.push.ensures.len) keeps.reserved in
     let left = new.reserved - new.len in
-    let ended = c.finish.ensures.step (with_cell (with_cell cells c.args.id started.to.cell) w.id grown.cell) piece left (grown.stands _ (started.to.stands _ c.requires.stands.1)) pair
+    let ended = c.finish.ensures.step (with_cell (with_cell cells c.args.id started.to.cell) w.id grown.cell) piece left pair (grown.stands _ (started.to.stands _ c.requires.stands.1))
     (own_cell (with_cell cells c.args.id started.to.cell) w.id c.in-Ok.pair.id grown.cell (sealed.id ∙ keeps.id)
     ∙ grown.says ∙ ap (λ s. growing s None piece left) (sym sealed.stamp)) in
-    record { stands = (with_cell (with_cell (with_cell cells c.args.id started.to.cell) w.id grown.cell) c.in-Ok.pair.id ended.to.cell, ended.to.stands _ (grown.stands _ (started.to.stands _ c.requires.stands.1))) }
+    record { stands = (with_cell (with_cell (with_cell cells c.args.id started.to.cell) w.id grown.cell) c.in-Ok.pair.id ended.to.cell, ended.to.stands nothing (grown.stands _ (started.to.stands _ c.requires.stands.1))) }
