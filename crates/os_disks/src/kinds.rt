@@ -22,7 +22,7 @@ pub fn find_file<R: Files>(rt: &R, path: &str) -> Result<Option<Metadata>> {
 }
 
 /// Whether a directory of this name stands. All else at the name is an error.
-fn has_directory<R: Files>(rt: &R, path: &str) -> Result<bool> {
+pub fn has_directory<R: Files>(rt: &R, path: &str) -> Result<bool> {
     match fs::symlink_metadata(rt, path) {
         Ok(metadata) if metadata.is_dir() => Ok(true),
         Ok(_) => Err(other_kind()),

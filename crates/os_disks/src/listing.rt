@@ -1,5 +1,5 @@
 //! Directories that are listed.
-use crate::kinds::has_way;
+use crate::kinds::{has_directory, has_way};
 use std::alloc::Global;
 use std::fs;
 use std::io::{ErrorKind, Result};
@@ -8,7 +8,7 @@ use std::io::{ErrorKind, Result};
 /// absent directory has none. Neither it nor a directory that its path names behind its first `below` bytes is a link.
 pub fn file_names(rt: &HostRuntime, alloc: Global, dir: &str, below: usize) -> Result<Vec<String>> {
     let mut names = Vec::new(alloc);
-    if !has_way(rt, dir, below)? {
+    if !(has_way(rt, dir, below)? && has_directory(rt, dir)?) {
         return Ok(names);
     }
     let entries = match fs::read_dir(rt, dir) {
