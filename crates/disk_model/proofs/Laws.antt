@@ -57,10 +57,6 @@ module _ {change : World → World} {old new : Option (List World)} where
         | inr changed ↦ subst Q (sym changed) (keeps from.0 from.1 (holds from.0 from.1))
       ]
 
--- a fact stays where the call left the worlds as they were
-pub each_same : {old new : Option (List World)} (P : World → Type 0) → new ≡ old → InEachWorld old P → InEachWorld new P
-each_same {old} {new} P same holds world is = holds world (subst (λ told. IsWorldOf told world) same is)
-
 -- what each world can leave, the disk can leave
 pub images : {told : Option (List World)} (Q : World → Type 0) (P : Files → Type 0) → InEachWorld told Q
     → ((world : World) (image : Files) → Q world → Leaves world image → P image) → (image : Files) → CanLeave told image → P image
@@ -99,12 +95,3 @@ module _ (Q : World → Type 0) (P : Files → Type 0) (leads : (world : World) 
   calls change run call time keeps =
       let holds = each_after_failed Q Q call run.each (λ world is has. has) keeps in
       record { each = holds; adds = goes_on P run.adds time (λ image leaves. images Q P holds leads image leaves) }
-
-  -- what some moment since the entry could have left
-  pub left_in_run : {first since : ℕ → Files → Type 0} {entry told : Option (List World)} (t : ℕ)
-      → InEachWorld entry Q → ((image : Files) → first t image → CanLeave entry image) → Run Q P first told since
-      → (image : Files) → since t image → P image
-  left_in_run t holds only_now run image left = elim (run.adds t image left) [
-    | inl earlier ↦ images Q P holds leads image (only_now image earlier)
-    | inr has ↦ has
-  ]

@@ -1,20 +1,16 @@
 -- What the calls of names do at one place.
-use Rattle.std.proofs.Common.{◌≡◌, ℕ, inl, inr, List, [], ◌∷◌, Bool, true, false, not, refl, sym, ◌∙◌, subst, arith, eq-eqb, Option, None, Some, filter}
+use Rattle.std.proofs.Common.{◌≡◌, ℕ, inl, inr, List, [], ◌∷◌, Bool, true, false, not, refl, sym, subst, arith, eq-eqb, Option, None, Some, filter}
 use Rattle.std.specs.List.{list_any}
-use Rattle.std.proofs.lemmas.Bool.{cases_Bool, and_from, and_parts, false_from_ne_true, eqb-true}
+use Rattle.std.proofs.lemmas.Bool.{cases_Bool, and_from, and_parts, eqb-true}
 use Rattle.std.proofs.lemmas.Slice.Eq.{bytes_eq-Decides}
-use Rattle.disk_model.specs.Files.{Files, is_place}
+use Rattle.disk_model.specs.Files.{is_place}
 use Rattle.disk_model.specs.Worlds.{DraftPlace, World, Holds, stands_at, created, removed, settled_at, published}
-use Rattle.disk_model.specs.Told.{Leaves}
 
 pub is_place_self : (vol : ℕ) (path : List ℕ) → is_place vol path vol path ≡ true
 is_place_self vol path = and_from _ _ (eq-eqb vol vol refl) ((bytes_eq-Decides path path).1 refl)
 
 pub same_place : (vol : ℕ) (path : List ℕ) (v : ℕ) (p : List ℕ) → is_place vol path v p ≡ true → (vol ≡ v) × (path ≡ p)
 same_place vol path v p is = let parts = and_parts _ _ is in (eqb-true vol v parts.0, (bytes_eq-Decides path p).0 parts.1)
-
-pub other_path : (vol : ℕ) (path : List ℕ) (v : ℕ) (p : List ℕ) → (path ≡ p → ⊥) → is_place vol path v p ≡ false
-other_path vol path v p differ = false_from_ne_true _ (λ is. differ (same_place vol path v p is).1)
 
 pub any_filter_false : {X : Type 0} (test keep : X → Bool) (xs : List X) → list_any test xs ≡ false → list_any test (filter keep xs) ≡ false
 any_filter_false test keep [] none = none
@@ -42,10 +38,6 @@ module _ (vol : ℕ) (path : List ℕ) (content : Option (List ℕ)) where
   pub holds_settled : (v : ℕ) (p : List ℕ) (bytes : List ℕ) (world : World) → is_place v p vol path ≡ false
       → Holds vol path content world → Holds vol path content (settled_at v p bytes world)
   holds_settled v p bytes world other holds = record { file = rw other holds.file; no_draft = any_filter_false _ _ world.drafts holds.no_draft }
-
-  -- each image has what the place holds
-  pub image_holds : (world : World) (image : Files) → Holds vol path content world → Leaves world image → image vol path ≡ content
-  image_holds world image holds leaves = leaves.settled vol path holds.no_draft ∙ holds.file
 
 pub holds_at : (vol : ℕ) (path bytes : List ℕ) (world : World) → Holds vol path (Some bytes) (settled_at vol path bytes world)
 holds_at vol path bytes world = record { file = rw (is_place_self vol path) refl; no_draft = any_dropped (stands_at vol path) world.drafts }
