@@ -18,9 +18,9 @@ passed_then later one two = record {
   adds = λ t image left. elim (two.adds t image left) [
     | inr new ↦ inr (λ u early. new u (omega (arith, early, later)))
     | inl old ↦ elim (one.adds t image old) [
-        | inl first ↦ inl first
-        | inr new ↦ inr (λ u early. two.keeps u image (new u early))
-      ]
+      | inl first ↦ inl first
+      | inr new ↦ inr (λ u early. two.keeps u image (new u early))
+    ]
   ];
 }
 
