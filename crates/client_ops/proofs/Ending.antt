@@ -15,7 +15,7 @@ use Rattle.pool_state.specs.declared.pool_record.Pool.{Pool}
 use Rattle.pair_draft.specs.Writers.{Pair}
 use Rattle.pool_state.specs.Writers.{PairStands, meta_of}
 use Rattle.pool_state.specs.Answers.{unlimited, TakesStep}
-use Rattle.pool_state.specs.Tenures.{TakesLearning}
+use Rattle.pool_state.specs.Tenures.{TakesLearning, KeepsWhole}
 use Rattle.client_ops.specs.declared.writing.FillFault.{FillFault}
 use Rattle.client_ops.specs.declared.writing.FillFault.TheVariants.{Failed as FillFailed, Memory as FillMemory}
 use Rattle.client_ops.specs.declared.writing.Filled.{Filled}
@@ -33,35 +33,42 @@ same_fault one other same = ap (fault_of one) same
 
 -- more is known of the cell that a tenure leaves
 pub says_else : {id : ℕ} {command : Command} {answer : Reply} {SaysOf Other : Cell → Type 0} {cells : Cells} {Stood StandsFor : Knowledge → Cells → Type 0} {past since : ℕ → Files → Type 0} →
-    TakesStep id command answer SaysOf cells Stood StandsFor past since → ((cell : Cell) → SaysOf cell → Other cell) → TakesStep id command answer Other cells Stood StandsFor past since
-says_else step more = record {
-  to = record { cell = step.to.cell; step = step.to.step; says = more step.to.cell step.to.says; stands = step.to.stands };
-  images = step.images;
-  sound_images = step.sound_images;
-  whole_images = step.whole_images;
-}
+    {Whole : Type 0} → TakesStep id command answer SaysOf cells Stood StandsFor past since × Whole → ((cell : Cell) → SaysOf cell → Other cell) →
+    TakesStep id command answer Other cells Stood StandsFor past since × Whole
+says_else (step, whole) more = (
+  record {
+    to = record { cell = step.to.cell; step = step.to.step; says = more step.to.cell step.to.says; stands = step.to.stands };
+    images = step.images;
+    sound_images = step.sound_images;
+  },
+  whole,
+)
 
 module _ {D S T R : Type 0} {g : Ghosts D S T R} {d : drafts.Ghosts T S} {s : sealed.Ghosts S} {r : readers.Ghosts R} {cells : Cells} {old new : Pool D S T R g d s r} where
   -- the end of a write is a tenure on its block
   pub ends_by : {at id stamp : ℕ} {bytes : List ℕ} {fault : Option FillFault} {reply : OpReply} {command : Command} {answer : Reply} {SaysOf : Cell → Type 0} {learn : Knowledge → Knowledge} →
-      at ≡ id → TakesLearning learn at command answer SaysOf cells old new → ((cell : Cell) → SaysOf cell → EndLeaves fault reply stamp bytes cell) →
-      EndLearns fault id (record { stamp = stamp; bytes = bytes }) learn → EndsWrite id stamp bytes fault reply cells old new
-  ends_by {at} {id} {stamp} {bytes} {fault} {reply} {command} {answer} {learn = learn} same takes more learns = record {
-    command = command;
-    answer = answer;
-    learn = learn;
-    learns = learns;
-    takes = subst (λ n. TakesLearning learn n command answer (EndLeaves fault reply stamp bytes) cells old new) same (says_else takes more);
-  }
+      at ≡ id → TakesLearning learn at command answer SaysOf cells old new × KeepsWhole old new → ((cell : Cell) → SaysOf cell → EndLeaves fault reply stamp bytes cell) →
+      EndLearns fault id (record { stamp = stamp; bytes = bytes }) learn → EndsWrite id stamp bytes fault reply cells old new × KeepsWhole old new
+  ends_by {at} {id} {stamp} {bytes} {fault} {reply} {command} {answer} {learn = learn} same takes more learns =
+      let else = says_else takes more in (
+        record {
+          command = command;
+          answer = answer;
+          learn = learn;
+          learns = learns;
+          takes = subst (λ n. TakesLearning learn n command answer (EndLeaves fault reply stamp bytes) cells old new) same else.0;
+        },
+        else.1,
+      )
 
   -- by what the bytes became
   pub ends_at : (place : T → DraftPlace) (bytes_of : T → Option (List ℕ)) (sealed_place : S → DraftPlace) (sealed_bytes : S → Option (List ℕ))
       (told : Option (List World)) (entries : ℕ → Option Entry) (id stamp : ℕ) (bytes : List ℕ) (filled known : Filled D S T R) (reply : OpReply) → filled ≡ known →
       FillStands place bytes_of sealed_place sealed_bytes told entries id stamp bytes filled →
-      (FillStands place bytes_of sealed_place sealed_bytes told entries id stamp bytes known → EndsWrite id stamp bytes (fill_fault known) reply cells old new) →
-      EndsWrite id stamp bytes (fill_fault filled) reply cells old new
+      (FillStands place bytes_of sealed_place sealed_bytes told entries id stamp bytes known → EndsWrite id stamp bytes (fill_fault known) reply cells old new × KeepsWhole old new) →
+      EndsWrite id stamp bytes (fill_fault filled) reply cells old new × KeepsWhole old new
   ends_at place bytes_of sealed_place sealed_bytes told entries id stamp bytes filled known reply is fill ends =
-      subst (λ f. EndsWrite id stamp bytes (fill_fault f) reply cells old new) (sym is)
+      subst (λ f. EndsWrite id stamp bytes (fill_fault f) reply cells old new × KeepsWhole old new) (sym is)
       (ends (subst (FillStands place bytes_of sealed_place sealed_bytes told entries id stamp bytes) is fill))
 
 -- what is known once a sealed pair was published

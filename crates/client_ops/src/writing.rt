@@ -12,7 +12,7 @@ ghost use Rattle.pool_state.specs.declared.entry.Entry.{Entry};
 ghost use Rattle.pool_state.specs.Answers.{start_reply};
 ghost use Rattle.pool_state.specs.Books.{entry_at};
 ghost use Rattle.pool_state.specs.Stands.{Stands, StandsForSome};
-ghost use Rattle.pool_state.specs.Tenures.{Takes};
+ghost use Rattle.pool_state.specs.Tenures.{Takes, KeepsWhole};
 ghost use Rattle.pool_state.specs.Writers.{WriterStands};
 ghost use Rattle.client_ops.specs.Writing.{op_writer, fill_fault, FillStands, EndsWrite, EndsAsWrite};
 
@@ -77,7 +77,7 @@ pub fn write_start<D: PoolDisks>(
         × (result ≡ Err StartFault.Memory → cell ≡ waiting → D.next_number pool.old.disks < D.next_number pool.new.disks)
         × (IsErr result → (cell ≡ cells id) ⊎ (cell ≡ waiting))
         × (IsOk result → cell ≡ growing stamp None [] len))
-        cells pool.old pool.new }
+        cells pool.old pool.new × KeepsWhole pool.old pool.new }
     ensures others { (other : ℕ) → other ≢ id → entry_at pool.new.map other ≡ entry_at pool.old.map other }
     ensures writer { IfOk result (λ op. WriterStands (D.worlds pool.new.disks) (entry_at pool.new.map) (writer_of D.Draft.place D.Draft.bytes (op_writer op)) []) }
     ensures what { IfOk result (λ op. ((op_writer op).id ≡ id) × ((op_writer op).stamp ≡ stamp) × ((op_writer op).reserved ≡ len)) }
@@ -140,7 +140,7 @@ pub fn op_end<D: PoolDisks>(pool: &mut Pool<D>, filled: Filled<D>) -> OpReply
     ensures step { (cells : Cells) (id stamp left : ℕ) (bytes : List ℕ) → Stands pool.old nothing cells →
         FillStands D.Draft.place D.Draft.bytes D.Sealed.place D.Sealed.bytes (D.worlds pool.old.disks) (entry_at pool.old.map) id stamp bytes filled →
         cells id ≡ growing stamp None bytes left →
-        EndsWrite id stamp bytes (fill_fault filled) result cells pool.old pool.new }
+        EndsWrite id stamp bytes (fill_fault filled) result cells pool.old pool.new × KeepsWhole pool.old pool.new }
     ensures others { (id stamp : ℕ) (bytes : List ℕ) →
         FillStands D.Draft.place D.Draft.bytes D.Sealed.place D.Sealed.bytes (D.worlds pool.old.disks) (entry_at pool.old.map) id stamp bytes filled →
         (other : ℕ) → other ≢ id → entry_at pool.new.map other ≡ entry_at pool.old.map other }

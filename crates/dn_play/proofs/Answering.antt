@@ -21,12 +21,14 @@ use Rattle.dn_play.specs.Script.{Script, is_blank, is_carried, script_after, goe
 use Rattle.disk_model.specs.Files.{Files}
 use Rattle.disk_model.specs.Told.{CanLeave}
 use Rattle.disk_model.specs.Causes.{Rose}
+use Rattle.disk_model.specs.Moments.{Passes}
 use Rattle.disk_model.specs.Marks.{Mark, IsLater}
+use Rattle.disk_model.proofs.GoingOn.{passed_none}
 use Rattle.pool_open.specs.declared.opening.ReopenFault.{ReopenFault}
 use Rattle.pool_open.specs.declared.opening.ReopenFault.TheVariants.{Failed, Memory as NoRoom, Later as TwoMetas}
 use Rattle.run_end.specs.declared.ending.Ending.{Ending}
 use Rattle.map_model.specs.Cells.{Cells}
-use Rattle.dn_play.specs.Images.{AllowedSince, StaysCrashSafe, LinesCrashSafe}
+use Rattle.dn_play.specs.Images.{AllowedFrom, StaysCrashSafe, LinesCrashSafe}
 use Rattle.dn_play.specs.Answer.{Answered, Unanswered, FirstOfLine, SaysLater, reopen_ending}
 
 -- a line that is no blank
@@ -51,11 +53,11 @@ pub told_bad : (text : List ℕ) (fault : LineFault) (column : ℕ) → fault �
 told_bad text fault column is h = elim h [ inl e ↦ absurd cc | inr e ↦ sym e ∙ ap Err is ]
 
 -- where no line was carried out
-pub no_lines : {before : Mark} {state : RunState} {Sound : Cells → Type 0} {past : ℕ → Files → Type 0} → AllowedSince past before.moment state [] → LinesCrashSafe before state [] Sound Sound past past
-no_lines now = record { images = λ t image s. inl s; each = now; sound = λ sound. sound; sound_images = λ sound t image s. inl s; whole = λ t image s. inl s }
+pub no_lines : {before : Mark} {state : RunState} {Sound : Cells → Type 0} {past : ℕ → Files → Type 0} → AllowedFrom past before state → LinesCrashSafe before state [] Sound Sound past past
+no_lines now = record { passes = passed_none _ _; each = now; sound = λ sound. sound; sound_images = λ sound t image s. inl s }
 
 module _ {Faulty : ℕ → ℕ → Type 0} {told : Option (List World)} {state : RunState} {before : Mark} {StandsFor : RunState → Type 0} {Sound : Cells → Type 0} {past : ℕ → Files → Type 0}
-    (stands : StandsFor state) (now : AllowedSince past before.moment state []) where
+    (stands : StandsFor state) (now : AllowedFrom past before state) where
   -- a blank line
   pub answered_blank : (taken : Option (List ℕ)) (text : List ℕ) → line_of text ≡ Ok Blank → Answered Faulty told state before before taken taken text StandsFor Sound Sound past past
   answered_blank taken text e = record {
@@ -111,10 +113,10 @@ module _ {Faulty : ℕ → ℕ → Type 0} {told : Option (List World)} {state :
   }
 
 module _ {Faulty : ℕ → ℕ → Type 0} {told : Option (List World)} {state : RunState} {before : Mark} {Sound : Cells → Type 0} {past : ℕ → Files → Type 0}
-    (now : AllowedSince past before.moment state []) where
+    (now : AllowedFrom past before state) where
   module _ {after : Mark} {StandsThen : RunState → Type 0} {SoundThen : Cells → Type 0} {since : ℕ → Files → Type 0} (taken taken' : Option (List ℕ)) (number : ℕ) (text : List ℕ) (line : Line) (reply : Reply)
-      (e : line_of text ≡ Ok line) (some : is_blank line ≡ false) (is : is_carried line ≡ true) (counts : IsLater before after) (carried : LineCarried Faulty told state before line reply after StandsThen Sound SoundThen past since)
-      (then : AllowedSince since after.moment carried.new []) where
+      (e : line_of text ≡ Ok line) (some : is_blank line ≡ false) (is : is_carried line ≡ true) (counts : IsLater before after) (passes : Passes before.moment past since) (carried : LineCarried Faulty told state before line reply after StandsThen Sound SoundThen past since)
+      (then : AllowedFrom since after carried.new) where
     abbrev turn : Turn
     turn = record { line = line; reply = reply; state = carried.new; mark = after }
 
@@ -124,17 +126,16 @@ module _ {Faulty : ℕ → ℕ → Type 0} {told : Option (List World)} {state :
     -- what a crash can leave while it is carried out
     safe : LinesCrashSafe before state (turn ∷ []) Sound SoundThen past since
     safe = record {
-      images = carried.crash.images;
+      passes = passes;
       each = (
-        λ image s. elim (carried.crash.images before.moment image s) [
-          | inl earlier ↦ inl (now image earlier)
-          | inr allows ↦ allows
-        ],
+        λ image s. inl (
+          elim (carried.crash.images before.moment image s) [ inl earlier ↦ inl (now image earlier).0 | inr allows ↦ allows ],
+          elim (carried.crash.whole before.moment image s) [ inl earlier ↦ (now image earlier).1 | inr whole ↦ whole ],
+        ),
         then,
       );
       sound = carried.crash.sound;
       sound_images = carried.crash.sound_images;
-      whole = carried.crash.whole;
     }
 
     first_command : FirstOfLine number text (line ∷ [])
@@ -183,7 +184,7 @@ module _ {Faulty : ℕ → ℕ → Type 0} {told : Option (List World)} {state :
 -- less is said of the cells then
 pub lines_less : {before : Mark} {state : RunState} {turns : List Turn} {Sound SoundNow : Cells → Type 0} {past since : ℕ → Files → Type 0} → LinesCrashSafe before state turns Sound SoundNow past since →
     LinesCrashSafe before state turns Sound AnyCells past since
-lines_less crash = record { images = crash.images; each = crash.each; sound = λ sound. tt; sound_images = crash.sound_images; whole = crash.whole }
+lines_less crash = record { passes = crash.passes; each = crash.each; sound = λ sound. tt; sound_images = crash.sound_images }
 
 -- less is said of where the session stands then
 pub unanswered_less : {Faulty : ℕ → ℕ → Type 0} {told : Option (List World)} {state : RunState} {before after : Mark} {taken taken' : Option (List ℕ)} {number : ℕ} {text : List ℕ} {ending : Ending}
@@ -203,30 +204,20 @@ unanswered_less {state = state} u weaken = record {
 
 -- an opening again that wasn't done
 module _ {told now : Option (List World)} (state : RunState) {before after : Mark} {Sound : Cells → Type 0} {past since : ℕ → Files → Type 0}
-    (counts : IsLater before after) (first : AllowedSince past before.moment state []) (stays : StaysCrashSafe state.cells Sound past since)
-    (leaves : (image : Files) → CanLeave now image → since before.moment image) (only : (image : Files) → past before.moment image → CanLeave told image)
-    (was : LeavesAllowed told state) where
+    (counts : IsLater before after) (passes : Passes before.moment past since) (first : AllowedFrom past before state) (stays : StaysCrashSafe state.cells Sound past since)
+    (leaves : (image : Files) → CanLeave now image → since before.moment image) where
   -- it allows what the cells before it allow
+  still : AllowedFrom since before state
+  still image s = (
+    elim (stays.images before.moment image s) [ inl earlier ↦ (first image earlier).0 | inr allows ↦ allows ],
+    elim (stays.whole before.moment image s) [ inl earlier ↦ (first image earlier).1 | inr whole ↦ whole ],
+  )
+
   stayed : LeavesAllowed now state
-  stayed image left = elim (stays.images before.moment image (leaves image left)) [
-    | inl earlier ↦ (first image earlier, (was image (only image earlier)).1)
-    | inr allows ↦ (
-      allows,
-      elim (stays.whole before.moment image (leaves image left)) [
-        | inl earlier ↦ (was image (only image earlier)).1
-        | inr whole ↦ whole
-      ],
-    )
-  ]
+  stayed image left = still image (leaves image left)
 
   crashed : LinesCrashSafe before state [] Sound AnyCells past since
-  crashed = record {
-    images = stays.images;
-    each = λ image s. elim (stays.images before.moment image s) [ inl earlier ↦ first image earlier | inr allows ↦ allows ];
-    sound = λ sound. tt;
-    sound_images = stays.sound_images;
-    whole = stays.whole;
-  }
+  crashed = record { passes = passes; each = still; sound = λ sound. tt; sound_images = stays.sound_images }
 
   pub unanswered_reopen : (Faulty : ℕ → ℕ → Type 0) (taken : Option (List ℕ)) (number : ℕ) (text : List ℕ) (fault : ReopenFault) (ending : Ending) → ending ≡ reopen_ending fault →
       line_of text ≡ Ok Reopen → (fault ≡ Failed → Rose before.faults after.faults) → Unanswered Faulty told state before after taken taken number text ending (LeavesAllowed now) Sound AnyCells past since

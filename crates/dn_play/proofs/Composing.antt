@@ -43,9 +43,9 @@ still_absent cells id cell stamp left bytes image was is allows other valid = el
 
 -- after the start
 pub grows_started : {id : ℕ} {command : Command} {answer : Answer} {SaysOf : Cell → Type 0} {cells : Cells} {Stood StandsFor : Knowledge → Cells → Type 0} {past since : ℕ → Files → Type 0}
-    (start : TakesStep id command answer SaysOf cells Stood StandsFor past since) (stamp left : ℕ) → cells id ≡ absent → start.to.cell ≡ growing stamp None [] left →
+    (start : TakesStep id command answer SaysOf cells Stood StandsFor past since) → AddsOnly past since OneWhole → (stamp left : ℕ) → cells id ≡ absent → start.to.cell ≡ growing stamp None [] left →
     Grows id cells start.to.cell Stood StandsFor past since
-grows_started {id} {cells = cells} start stamp left was is = record {
+grows_started {id} {cells = cells} start whole stamp left was is = record {
   stands = start.to.stands;
   images = λ t image s. elim (start.images t image s) [
     | inl earlier ↦ inl earlier
@@ -53,7 +53,7 @@ grows_started {id} {cells = cells} start stamp left was is = record {
     | inr (inr after) ↦ inr (still_absent cells id start.to.cell stamp left [] image was is after)
   ];
   sound_images = start.sound_images;
-  whole_images = start.whole_images;
+  whole_images = whole;
 }
 
 -- after a push
@@ -72,8 +72,8 @@ module _ {id : ℕ} {command : Command} {answer : Answer} {SaysOf : Cell → Typ
   pub ended_stands : (known : Knowledge) → Stood known cells → StandsFor known (with_cell cells id end.to.cell)
   ended_stands known old = subst (StandsFor known) (with_cell-again cells id cell end.to.cell) (end.to.stands known (grows.stands known old))
 
-  pub ended_safe : (stamp left : ℕ) (bytes : List ℕ) → cells id ≡ absent → cell ≡ growing stamp None bytes left → CrashSafe cells (with_cell cells id end.to.cell) (Stood matching) (StandsFor matching) past since
-  ended_safe stamp left bytes was is = record {
+  pub ended_safe : AddsOnly mid since OneWhole → (stamp left : ℕ) (bytes : List ℕ) → cells id ≡ absent → cell ≡ growing stamp None bytes left → CrashSafe cells (with_cell cells id end.to.cell) (Stood matching) (StandsFor matching) past since
+  ended_safe whole stamp left bytes was is = record {
     images = λ t image s. elim (end.images t image s) [
       | inl earlier ↦ elim (grows.images t image earlier) [ inl first ↦ inl first | inr allows ↦ inr (inl allows) ]
       | inr (inl before) ↦ inr (inl (still_absent cells id cell stamp left bytes image was is before))
@@ -84,7 +84,7 @@ module _ {id : ℕ} {command : Command} {answer : Answer} {SaysOf : Cell → Typ
       | inl earlier ↦ grows.sound_images old t image earlier
       | inr is_sound ↦ inr is_sound
     ];
-    whole = λ t image s. elim (end.whole_images t image s) [
+    whole = λ t image s. elim (whole t image s) [
       | inl earlier ↦ grows.whole_images t image earlier
       | inr is_whole ↦ inr is_whole
     ];

@@ -77,6 +77,7 @@ goes_weaker Faulty since can_leave course ending shown goes = elim goes [
     shows = shows_weaker (turn_replies r.turns) shown ending r.shows;
     of_lines = tt;
     images = r.images;
+    images_opening = r.images_opening;
     images_each = r.images_each;
     images_at_exit = r.images_at_exit;
     whole_at_exit = r.whole_at_exit;

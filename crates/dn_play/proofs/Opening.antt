@@ -1,5 +1,5 @@
 -- What a run is whose pool is opened, or isn't.
-use Rattle.std.proofs.Common.{◌≡◌, inl, inr, ℕ, true, false, List, [], ◌∷◌, Option, None, Some, MatchOption, Contains, refl, sym, ◌∙◌, subst}
+use Rattle.std.proofs.Common.{◌≡◌, inl, inr, ℕ, true, false, List, [], ◌∷◌, Option, None, Some, MatchOption, Contains, refl, sym, ◌∙◌, subst, arith}
 use mathlib.Core.Path.{fun_ext}
 use Rattle.std.specs.Prelude.{IsSome}
 use Rattle.std.proofs.lemmas.Option.{same_Some}
@@ -32,7 +32,8 @@ use Rattle.run_end.specs.Closing.{Writes}
 use Rattle.dn_play.specs.State.{Numbers, RunState}
 use Rattle.dn_play.specs.Standing.{Standing, OpenWriter, NotGrowing, LeavesAllowed}
 use Rattle.dn_play.specs.Answer.{Played, IsOfLines}
-use Rattle.dn_play.specs.Play.{Course, IsBeforeOpened, RunsPool}
+use Rattle.dn_play.specs.Play.{Course, IsBeforeOpened, ReadsAlikeUpTo, RunsPool}
+use Rattle.dn_play.proofs.Crashes.{counts_on, first_allowed, each_allowed, each_whole}
 use Rattle.dn_play.proofs.Progress.{known_on}
 
 -- the state that an opening leaves
@@ -146,7 +147,7 @@ module _ {D S T R : Type 0} (g : Ghosts D S T R) (Faulty : ℕ → ℕ → Type 
         goes = inl (record {
           is_before = early;
           nothing = refl;
-          counts = record { faults = went.faults; absences = went.absences; next_number = went.next_number; moment = went.moment };
+          counts = counts_on went;
           open_fault = open_fault;
           later = later;
           images = λ start holds image s. reads_start known start holds reads image s;
@@ -166,6 +167,11 @@ module _ {D S T R : Type 0} (g : Ghosts D S T R) (Faulty : ℕ → ℕ → Type 
       (ending ≡ NotCarriedOut → (image : Files) → CanLeave (g.worlds after) image → HasTwoMetas image) →
       RunsPool Faulty (g.left_since out) (CanLeave (g.worlds out)) (course_between out input) taken taken' ending
   runs_so mid after out {volumes} {entries} {found} {SoundNow} input taken taken' ending is went opens only_mid p of_lines one_meta meanwhile later =
+      let since_opening : (start : Files) → HoldsImage (g.worlds before) start → ReadsAlikeUpTo (g.left_since after) (mark_of g before) (mark_of g mid) start = λ start holds image s.
+      elim (p.crash.passes.adds (g.moment before) image s) [
+        | inl earlier ↦ inl (reads_start mid start holds meanwhile image earlier)
+        | inr new ↦ inr (new (g.moment mid) (omega arith))
+      ] in
       let made : (start : Files) → HoldsImage (g.worlds before) start → MakesCells (block_files start) opens.cells = λ start holds.
       let shows = opens.shown (tells (g.worlds before) start holds) in
       shown_start (g.worlds before) start shows.world holds shows.is (λ files. MakesCells files opens.cells) shows.made in
@@ -181,30 +187,22 @@ module _ {D S T R : Type 0} (g : Ghosts D S T R) (Faulty : ℕ → ℕ → Type 
           metas_from_start = λ start holds.
               let shows = opens.shown (tells (g.worlds before) start holds) in
               shown_start (g.worlds before) start shows.world holds shows.is (λ files. (id : ℕ) → IsBlockId id → HasSoundCopies (Fits (exactly opens.metas) id) (files id)) shows.metas_are;
-          counts = record { faults = went.faults; absences = went.absences; next_number = went.next_number; moment = went.moment };
+          counts = counts_on went;
           follows = λ trust known. p.follows trust (known_on trust (g.worlds before) (g.worlds mid) went.honest.0
               (λ begins. opens.stands_by matching (sound_start (g.worlds before) begins.0 begins.1 begins.2)) known);
           at_exit = p.at_mark;
           read = p.read;
           shows = p.shows;
           of_lines = of_lines;
-          images = λ start holds image s. elim (p.crash.images (g.moment before) image s) [
-            | inl earlier ↦
-                let shows = opens.shown (tells (g.worlds before) start holds) in
-                let alike : ReadsAlike (block_files start) image = elim (shows.images (g.moment before) image earlier) [
-                  | inl first ↦ alike_start start image (only_start (g.worlds before) start image holds (only_now image first))
-                  | inr reads_so ↦ shown_start (g.worlds before) start shows.world holds shows.is (λ files. ReadsAlike files image) reads_so
-                ] in
-                from_first p.turns image (start_allows (block_files start) opens.cells image opens.opened (made start holds) alike)
-            | inr allows ↦ allows
+          images = λ start holds image s. elim (since_opening start holds image s) [
+            | inl alike ↦ first_allowed _ p.turns image (start_allows (block_files start) opens.cells image opens.opened (made start holds) alike)
+            | inr later ↦ each_allowed _ p.turns image p.crash.each later
           ];
+          images_opening = since_opening;
           images_each = p.crash.each;
           images_at_exit = λ image leaves. (p.stands image leaves).0;
           whole_at_exit = λ image leaves. (p.stands image leaves).1;
-          whole = λ image s. elim (p.crash.whole (g.moment mid) image s) [
-            | inl earlier ↦ opens.whole image (only_mid image earlier)
-            | inr is_whole ↦ is_whole
-          ];
+          whole = λ image s. each_whole _ p.turns image p.crash.each s;
           later = later;
           sound = λ start holds sound image s.
               let worlds_are = sound_start (g.worlds before) start holds sound in
@@ -218,7 +216,3 @@ module _ {D S T R : Type 0} (g : Ghosts D S T R) (Faulty : ℕ → ℕ → Type 
         });
         written = p.written;
       })
-    where
-      from_first : (turns : List Rattle.dn_play.specs.State.Turn) (image : Files) → AllowsImage opens.cells image → Rattle.dn_play.specs.Images.AllowedByOne (first_of opens.cells opens.metas) turns image
-      from_first [] image allows = allows
-      from_first (turn ∷ turns) image allows = inl allows

@@ -28,7 +28,7 @@ use Rattle.dn_play.specs.Answer.{Answered, Unanswered, FirstOfLine, SaysUpTo, Sa
 use Rattle.disk_model.specs.Files.{Files}
 use Rattle.disk_model.specs.Marks.{Mark}
 use Rattle.map_model.specs.Cells.{Cells}
-use Rattle.dn_play.specs.Images.{AllowedSince, LinesCrashSafe}
+use Rattle.dn_play.specs.Images.{AllowedFrom, LinesCrashSafe}
 use Rattle.dn_play.proofs.Crashes.{crash_on}
 use Rattle.dn_play.specs.Standing.{AnyCells}
 use Rattle.dn_play.proofs.Answering.{no_lines, lines_less}
@@ -211,7 +211,7 @@ all_follow Faulty told told_now state before now honest then turns more at_mark 
     (subst (λ m. Follows trust Faulty (last_state state turns) m more) (sym at_mark) (follows trust (known_on trust told told_now honest then known)))
 
 module _ {Faulty : ℕ → ℕ → Type 0} {told : Option (List World)} {state : RunState} {before : Mark} {StandsFor : RunState → Type 0} {Sound : Cells → Type 0} {past : ℕ → Files → Type 0}
-    (stands : StandsFor state) (from_now : AllowedSince past before.moment state []) where
+    (stands : StandsFor state) (from_now : AllowedFrom past before state) where
   -- nothing was read yet
   pub starts : (input : Option (List ℕ)) (pending : List ℕ) (count : ℕ) (taken : Option (List ℕ)) → pending ≡ [] → count ≡ 0 →
       Progress Faulty told state before before input input pending 0 count taken taken StandsFor Sound Sound past past
@@ -313,7 +313,7 @@ module _ {Faulty : ℕ → ℕ → Type 0} {told : Option (List World)} {state :
         follows = all_follow Faulty told told_now state before now honest p.crash.sound p.turns a.turns p.at_mark p.follows a.follows;
         stands = subst StandsThen (sym (last_state-append state p.turns a.turns)) a.stands;
         at_mark = marks_on a.turns a.at_mark;
-        crash = crash_on p.at_mark p.crash a.crash;
+        crash = crash_on p.at_mark (p.follows any_disks tt) p.crash a.crash;
         written = subst (λ r. Appends taken taken'' (text_of r)) (sym (turn_replies-append p.turns a.turns)) (appends_replies taken taken' taken'' (turn_replies p.turns) (turn_replies a.turns) p.written a.written);
         read = subst (λ c. OfUnread (λ unread rest. script_of unread ≡ prepend c (script_from (number + 1) count' (terminated_lines rest))) [] input pending' left') (sym (turn_lines-append p.turns a.turns))
             (unread_chain
@@ -339,7 +339,7 @@ module _ {Faulty : ℕ → ℕ → Type 0} {told : Option (List World)} {state :
             (ends_on (λ says. subst (NextReopens input) (sym (turn_lines-append p.turns u.turns))
             (reopen_on input left left' pending pending' number count count' text (turn_lines p.turns) (turn_lines u.turns) p.read t (subst (λ s. SaysReopen s (turn_lines u.turns)) same_text says)))
             ending (last_mark now u.turns) after u.at_mark);
-        crash = crash_on p.at_mark p.crash u.crash;
+        crash = crash_on p.at_mark (p.follows any_disks tt) p.crash u.crash;
         read = subst (λ c. IfSome input (λ bytes. Reads bytes c ending)) (sym (turn_lines-append p.turns u.turns))
             (reads_on input left left' pending pending' number count count' text (turn_lines p.turns) (turn_lines u.turns) ending p.read t (subst (λ s. SaysUpTo (number + 1) s (turn_lines u.turns) ending) same_text u.says));
         shows = subst (λ r. Shows r ending (turn_replies p.turns ++ u.shown)) (sym (turn_replies-append p.turns u.turns)) (shows_on (turn_replies p.turns) (turn_replies u.turns) u.shown ending u.shows);

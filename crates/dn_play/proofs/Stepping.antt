@@ -3,6 +3,8 @@ use Rattle.std.proofs.Common.{◌≡◌, ◌≢◌, ◌-◌, ◌<◌, inl, inr, 
 use Rattle.std.specs.Prelude.{MatchOption, Bool}
 use Rattle.std.proofs.lemmas.Option.{same_Some}
 use Rattle.std.proofs.lemmas.Bool.{cases_eq, eq-eqb, ne_eqb}
+use Rattle.disk_model.specs.Moments.{AddsOnly}
+use Rattle.map_model.specs.Copies.{OneWhole}
 use Rattle.disk_model.specs.Worlds.{World, DraftPlace, draft_at}
 use Rattle.map_model.specs.Cells.{Cell, Cells, growing, waiting}
 use Rattle.map_model.specs.Steps.{Command, Step, Reply as Answer, failed, memory}
@@ -199,9 +201,9 @@ begins_none b id other new old same = rw same refl
 
 -- a tenure at another name of its block
 pub at_block : {id other : ℕ} {command : Command} {answer : Answer} {SaysOf : Cell → Type 0} {cells : Cells} {Stood StandsFor : Knowledge → Cells → Type 0} {past since : ℕ → Files → Type 0} →
-    id ≡ other → TakesStep id command answer SaysOf cells Stood StandsFor past since → TakesStep other command answer SaysOf cells Stood StandsFor past since
-at_block {id} {other} {command} {answer} {SaysOf} {cells} {Stood} {StandsFor} {past} {since} same step =
-    subst (λ n. TakesStep n command answer SaysOf cells Stood StandsFor past since) same step
+    {Whole : Type 0} → id ≡ other → TakesStep id command answer SaysOf cells Stood StandsFor past since × Whole → TakesStep other command answer SaysOf cells Stood StandsFor past since × Whole
+at_block {id} {other} {command} {answer} {SaysOf} {cells} {Stood} {StandsFor} {past} {since} {Whole} same step =
+    subst (λ n. TakesStep n command answer SaysOf cells Stood StandsFor past since × Whole) same step
 
 pub at_block_steps : {id other : ℕ} {command : Command} {answer : Answer} {SaysOf : Cell → Type 0} {cells : Cells} {Stood StandsFor : Knowledge → Cells → Type 0} →
     id ≡ other → StepsTo id command answer SaysOf cells Stood StandsFor → StepsTo other command answer SaysOf cells Stood StandsFor
@@ -209,16 +211,17 @@ at_block_steps {id} {other} {command} {answer} {SaysOf} {cells} {Stood} {StandsF
 
 -- what a crash can leave: of a tenure that takes a step, of a quiet one, and of none
 pub crash_takes : {id : ℕ} {command : Command} {answer : Answer} {SaysOf : Cell → Type 0} {cells : Cells} {Stood StandsFor : Knowledge → Cells → Type 0} {past since : ℕ → Files → Type 0} →
-    (step : TakesStep id command answer SaysOf cells Stood StandsFor past since) → CrashSafe cells (with_cell cells id step.to.cell) (Stood matching) (StandsFor matching) past since
-crash_takes step = record { images = step.images; sound = step.to.stands matching; sound_images = step.sound_images; whole = step.whole_images }
+    (both : TakesStep id command answer SaysOf cells Stood StandsFor past since × AddsOnly past since OneWhole) →
+    CrashSafe cells (with_cell cells id both.0.to.cell) (Stood matching) (StandsFor matching) past since
+crash_takes both = record { images = both.0.images; sound = both.0.to.stands matching; sound_images = both.0.sound_images; whole = both.1 }
 
-pub crash_rests : {cells : Cells} {Stood StandsFor : Knowledge → Cells → Type 0} {past since : ℕ → Files → Type 0} → IsQuiet cells Stood StandsFor past since →
+pub crash_rests : {cells : Cells} {Stood StandsFor : Knowledge → Cells → Type 0} {past since : ℕ → Files → Type 0} → IsQuiet cells Stood StandsFor past since × AddsOnly past since OneWhole →
     CrashSafe cells cells (Stood matching) (StandsFor matching) past since
-crash_rests quiet = record {
+crash_rests (quiet, whole) = record {
   images = λ t image s. elim (quiet.images t image s) [ inl earlier ↦ inl earlier | inr allows ↦ inr (inl allows) ];
   sound = quiet.stands matching;
   sound_images = quiet.sound_images;
-  whole = quiet.whole_images;
+  whole = whole;
 }
 
 pub crash_same : (cells : Cells) (Sound : Cells → Type 0) (past : ℕ → Files → Type 0) → CrashSafe cells cells Sound Sound past past

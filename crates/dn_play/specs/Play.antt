@@ -18,7 +18,7 @@ use Rattle.run_end.specs.Closing.{Writes, Ends}
 use Rattle.dn_play.specs.State.{RunState, Turn, turn_lines, turn_replies, last_state, last_mark}
 use Rattle.dn_play.specs.Commands.{Trust}
 use Rattle.dn_play.specs.Lines.{Follows}
-use Rattle.dn_play.specs.Images.{AllowedSince, AllowedSinceEach}
+use Rattle.dn_play.specs.Images.{AllowedSince, AllowedByEach}
 use Rattle.dn_play.specs.Standing.{IsKnown}
 use Rattle.dn_play.specs.Session.{Reads, Shows, text_of}
 use Rattle.dn_play.specs.Answer.{IsOfLines, EndsAt, NextReopens}
@@ -49,11 +49,17 @@ pub record StopsUnopened (since : ℕ → Files → Type 0) (course : Course) (e
   pub images : (start : Files) → HoldsImage course.told start → (image : Files) → since course.entry.moment image → ReadsAlike (block_files start) image
   pub sound : (start : Files) → HoldsImage course.told start → IsSound start → (image : Files) → since course.entry.moment image → IsSound image
 
+-- what some moment from this one on could have left reads as the image does, or some moment from that one on could have left it
+abbrev pub ReadsAlikeUpTo : (since : ℕ → Files → Type 0) → Mark → Mark → Files → Type 0
+ReadsAlikeUpTo since from to start = (image : Files) → since from.moment image → ReadsAlike (block_files start) image ⊎ since to.moment image
+
 -- The opening was done. Then lines of the script were carried out, in order, whatever is known of the disks. Where the disks
--- tell one image at the entry, the first cells are what an opening makes of it, and the meta files those of its copies. The cells allow what a crash can leave: those
--- after the last line what it can leave at the exit, and those after a line, or a later one, what it could leave since it. Of
--- each block that has a copy in an image that a crash could leave since the opening's end, one whole copy stands alone. Where the
--- image at the entry is sound, so is each that a crash could leave since then. The run may end at an opening again that isn't
+-- tell one image at the entry, the first cells are what an opening makes of it, and the meta files those of its copies.
+-- What a crash could leave from the entry on reads as that image, or could be left since the opening's end; what it could leave
+-- since a line's beginning, the cells before or after that line allow, or it could be left since the line's end; what it could
+-- leave since the last line's end, the cells after it allow, and so does each image that can be left at the exit.
+-- Of each block that has a copy in an image that a crash could leave since the opening's end, one whole copy stands alone. Where
+-- the image at the entry is sound, so is each that a crash could leave since then. The run may end at an opening again that isn't
 -- done; where that is because two metas of a block stand, they stand in each image that can be left.
 pub record RunsLines (Faulty : ℕ → ℕ → Type 0) (since : ℕ → Files → Type 0) (can_leave : Files → Type 0) (course : Course) (ending : Ending) (shown : List Reply) : Type 0 where
   pub first : RunState
@@ -70,7 +76,8 @@ pub record RunsLines (Faulty : ℕ → ℕ → Type 0) (since : ℕ → Files �
   pub shows : Shows (turn_replies turns) ending shown
   pub of_lines : IsOfLines ending
   pub images : (start : Files) → HoldsImage course.told start → AllowedSince since course.entry.moment first turns
-  pub images_each : AllowedSinceEach since mark first turns
+  pub images_opening : (start : Files) → HoldsImage course.told start → ReadsAlikeUpTo since course.entry mark start
+  pub images_each : AllowedByEach since mark first turns
   pub images_at_exit : (image : Files) → can_leave image → AllowsImage (last_state first turns).cells image
   pub whole_at_exit : (image : Files) → can_leave image → OneWhole image
   pub whole : (image : Files) → since mark.moment image → OneWhole image

@@ -8,6 +8,7 @@ use Rattle.disk_model.specs.Worlds.{World}
 use Rattle.disk_model.specs.Told.{InEachWorld, PicksOne, CanLeave, Leaves}
 use Rattle.disk_model.specs.Moments.{Elapses, AddsOnly}
 use Rattle.disk_model.proofs.Laws.{only_one, from_done}
+use Rattle.disk_model.proofs.GoingOn.{went_call}
 use Rattle.volume_layout.specs.Paths.{IsBlockId, IsStamp, meta_path}
 use Rattle.volume_layout.proofs.Reading.{is_stamp-IsStamp}
 use Rattle.map_model.specs.World.{DraftsAside}
@@ -38,10 +39,10 @@ module _ {D S T R : Type 0} (g : Ghosts D S T R) (old new : D) where
   -- a call that looks
   pub looked : Remains (g.worlds old) (g.worlds new) → IsSome (g.worlds old) ↔ IsSome (g.worlds new) → g.faults old ≤ g.faults new → g.absences old ≤ g.absences new →
       g.next_number new ≡ g.next_number old → g.volume_count new ≡ g.volume_count old → Elapses (g.moment old) (g.moment new) (g.left_since old) (g.left_since new) (CanLeave (g.worlds new)) →
-      OnlyLooks g old new
-  looked remains honest faults absences numbers volumes time = record {
+      ((t : ℕ) (image : Files) → t ≤ g.moment new → CanLeave (g.worlds new) image → g.left_since new t image) → OnlyLooks g old new
+  looked remains honest faults absences numbers volumes time counts = record {
     remains = remains;
-    goes_on = record { honest = honest; faults = faults; absences = absences; next_number = omega (arith, numbers); moment = time.later; volume_count = volumes };
+    goes_on = went_call g counts time honest faults absences (omega (arith, numbers)) volumes;
     images = λ t image left. elim (time.nothing_else t image left) [
       | inl earlier ↦ inl earlier
       | inr leaves ↦ inr (leaves_before (g.worlds old) (g.worlds new) remains image leaves)

@@ -21,11 +21,6 @@ module _ {D S T R : Type 0} (g : Ghosts D S T R) where
     images = λ t image left. inl left;
   }
 
-  pub goes_by : (old new : D) → IsSome (g.worlds old) ↔ IsSome (g.worlds new) → g.faults old ≤ g.faults new → g.absences old ≤ g.absences new → g.next_number new ≡ g.next_number old →
-      g.moment old ≤ g.moment new → g.volume_count new ≡ g.volume_count old → GoesOn g old new
-  goes_by old new honest faults absences numbers moment volumes =
-      record { honest = honest; faults = faults; absences = absences; next_number = omega (arith, numbers); moment = moment; volume_count = volumes }
-
   pub looks_then : (one two three : D) → OnlyLooks g one two →
       OnlyLooks g two three → OnlyLooks g one three
   looks_then one two three first second = record {

@@ -4,6 +4,7 @@ use Rattle.std.proofs.lemmas.Bool.{false≢true}
 use Rattle.disk_model.specs.Files.{Files}
 use Rattle.disk_model.specs.Worlds.{World}
 use Rattle.disk_model.specs.Moments.{AddsOnly}
+use Rattle.map_model.specs.Copies.{OneWhole}
 use Rattle.volume_layout.specs.Paths.{IsBlockId}
 use Rattle.map_model.specs.Cells.{Replica, Cell, Cells, absent, final, growing, unsure, waiting}
 use Rattle.map_model.specs.Allows.{Allows}
@@ -245,22 +246,26 @@ module _ {told : Option (List World)} {volumes : ℕ} {entries : ℕ → Option 
         (found_kept id found found' same_found) tt tt (stands.found_placed id valid) (λ no. none) waits_own
 
 -- a quiet tenure that failed to delete a block
-pub quiet_failure : {Says : Cell → Type 0} {cells : Cells} {Stood StandsFor : Knowledge → Cells → Type 0} {past since : ℕ → Files → Type 0} (id : ℕ) → IsQuiet cells Stood StandsFor past since →
-    Step unlimited (cells id) delete failed (cells id) → Says (cells id) → TakesStep id delete failed Says cells Stood StandsFor past since
-quiet_failure {cells = cells} {StandsFor = StandsFor} id quiet step says = record {
-  to = record { cell = cells id; step = step; says = says; stands = λ known old. subst (StandsFor known) (sym (with_cell-same cells id)) (quiet.stands known old) };
-  images = adds_less quiet.images (λ image allows. inl allows);
-  sound_images = quiet.sound_images;
-  whole_images = quiet.whole_images;
-}
+pub quiet_failure : {Says : Cell → Type 0} {cells : Cells} {Stood StandsFor : Knowledge → Cells → Type 0} {past since : ℕ → Files → Type 0} (id : ℕ) → IsQuiet cells Stood StandsFor past since × AddsOnly past since OneWhole →
+    Step unlimited (cells id) delete failed (cells id) → Says (cells id) → TakesStep id delete failed Says cells Stood StandsFor past since × AddsOnly past since OneWhole
+quiet_failure {cells = cells} {StandsFor = StandsFor} id (quiet, whole) step says = (
+  record {
+    to = record { cell = cells id; step = step; says = says; stands = λ known old. subst (StandsFor known) (sym (with_cell-same cells id)) (quiet.stands known old) };
+    images = adds_less quiet.images (λ image allows. inl allows);
+    sound_images = quiet.sound_images;
+  },
+  whole,
+)
 
 -- a quiet tenure, and then the books forget the block
-pub quiet_deletion : {Says : Cell → Type 0} {cells : Cells} {Stood Between StandsFor : Knowledge → Cells → Type 0} {past since : ℕ → Files → Type 0} (id : ℕ) → IsQuiet cells Stood Between past since →
+pub quiet_deletion : {Says : Cell → Type 0} {cells : Cells} {Stood Between StandsFor : Knowledge → Cells → Type 0} {past since : ℕ → Files → Type 0} (id : ℕ) → IsQuiet cells Stood Between past since × AddsOnly past since OneWhole →
     Step unlimited (cells id) delete done absent → Says absent → ((known : Knowledge) → Between known cells → StandsFor known (with_cell cells id absent)) →
-    TakesStep id delete done Says cells Stood StandsFor past since
-quiet_deletion id quiet step says forgets = record {
-  to = record { cell = absent; step = step; says = says; stands = λ known old. forgets known (quiet.stands known old) };
-  images = adds_less quiet.images (λ image allows. inl allows);
-  sound_images = quiet.sound_images;
-  whole_images = quiet.whole_images;
-}
+    TakesStep id delete done Says cells Stood StandsFor past since × AddsOnly past since OneWhole
+quiet_deletion id (quiet, whole) step says forgets = (
+  record {
+    to = record { cell = absent; step = step; says = says; stands = λ known old. forgets known (quiet.stands known old) };
+    images = adds_less quiet.images (λ image allows. inl allows);
+    sound_images = quiet.sound_images;
+  },
+  whole,
+)

@@ -8,6 +8,8 @@ use Rattle.std.specs.List.{slice_get}
 use Rattle.std.proofs.lemmas.List.{length-append, take-append-drop}
 use Rattle.std.proofs.lemmas.Option.{slice_get_within, get_or_from_slice_get}
 use Rattle.disk_model.specs.Files.{Files}
+use Rattle.disk_model.specs.Moments.{AddsOnly}
+use Rattle.map_model.specs.Copies.{OneWhole}
 use Rattle.disk_model.specs.Worlds.{World}
 use Rattle.disk_model.specs.Told.{CanLeave}
 use Rattle.volume_layout.specs.Paths.{IsBlockId}
@@ -173,13 +175,16 @@ quiet_same {told = told} {volumes = volumes} {entries = entries} {found' = found
 
 -- two quiet tenures, one after the other
 pub both_quiet : {cells : Cells} {Stood Between StandsFor : Knowledge → Cells → Type 0} {past mid since : ℕ → Files → Type 0} →
-    IsQuiet cells Stood Between past mid → IsQuiet cells Between StandsFor mid since → IsQuiet cells Stood StandsFor past since
-both_quiet first second = record {
-  stands = λ known old. second.stands known (first.stands known old);
-  images = adds_join first.images second.images;
-  sound_images = λ old. adds_join (first.sound_images old) (second.sound_images (first.stands matching old));
-  whole_images = adds_join first.whole_images second.whole_images;
-}
+    IsQuiet cells Stood Between past mid × AddsOnly past mid OneWhole → IsQuiet cells Between StandsFor mid since × AddsOnly mid since OneWhole →
+    IsQuiet cells Stood StandsFor past since × AddsOnly past since OneWhole
+both_quiet (first, first_whole) (second, second_whole) = (
+  record {
+    stands = λ known old. second.stands known (first.stands known old);
+    images = adds_join first.images second.images;
+    sound_images = λ old. adds_join (first.sound_images old) (second.sound_images (first.stands matching old));
+  },
+  adds_join first_whole second_whole,
+)
 
 -- the entry of a block of which the opening found files
 pub waiting_entry : (o : Option Entry) → (IsNotWaiting o → ⊥) → (e : Entry) × (o ≡ Some e) × (IsNoWait e.state → ⊥)

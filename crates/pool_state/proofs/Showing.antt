@@ -169,19 +169,21 @@ pub takes_learning : (learn : Knowledge → Knowledge) → learn matching ≡ ma
     {Stood StandsFor : Knowledge → Cells → Type 0} {past since : ℕ → Files → Type 0}
     (cell : Cell) → Step unlimited (cells id) command answer cell → Says cell →
     ((known : Knowledge) → Stood known cells → StandsFor known (with_cell cells id cell) × AddsOnly past since (Shown (learn known) cells (with_cell cells id cell))) →
-    Stood nothing cells → TakesStep id command answer Says cells Stood StandsFor past since
-takes_learning learn same cell step says run stood = record {
-  to = record { cell = cell; step = step; says = says; stands = λ known old. (run known old).0 };
-  images = adds_less (run nothing stood).1 (λ image shows. shows.allowed);
-  sound_images = λ old. adds_less (run matching old).1 (λ image shows. subst (λ (k : Knowledge). IsSoundBy (Fits k) image) same shows.matching);
-  whole_images = adds_less (run nothing stood).1 (λ image shows. shows.whole);
-}
+    Stood nothing cells → TakesStep id command answer Says cells Stood StandsFor past since × AddsOnly past since OneWhole
+takes_learning learn same cell step says run stood = (
+  record {
+    to = record { cell = cell; step = step; says = says; stands = λ known old. (run known old).0 };
+    images = adds_less (run nothing stood).1 (λ image shows. shows.allowed);
+    sound_images = λ old. adds_less (run matching old).1 (λ image shows. subst (λ (k : Knowledge). IsSoundBy (Fits k) image) same shows.matching);
+  },
+  adds_less (run nothing stood).1 (λ image shows. shows.whole),
+)
 
 -- a step after which no more is known
 pub takes : {id : ℕ} {command : Command} {answer : Reply} {Says : Cell → Type 0} {cells : Cells} {Stood StandsFor : Knowledge → Cells → Type 0} {past since : ℕ → Files → Type 0}
     (cell : Cell) → Step unlimited (cells id) command answer cell → Says cell →
     ((known : Knowledge) → Stood known cells → StandsFor known (with_cell cells id cell) × AddsOnly past since (Shown known cells (with_cell cells id cell))) →
-    Stood nothing cells → TakesStep id command answer Says cells Stood StandsFor past since
+    Stood nothing cells → TakesStep id command answer Says cells Stood StandsFor past since × AddsOnly past since OneWhole
 takes = takes_learning (λ known. known) refl
 
 -- an image that the cells allow, that matches, and each of whose copies is whole
@@ -192,10 +194,12 @@ pub record Quiet (known : Knowledge) (cells : Cells) (image : Files) : Type 0 wh
 
 pub rests : {cells : Cells} {Stood StandsFor : Knowledge → Cells → Type 0} {past since : ℕ → Files → Type 0} →
     ((known : Knowledge) → Stood known cells → StandsFor known cells × AddsOnly past since (Quiet known cells)) →
-    Stood nothing cells → IsQuiet cells Stood StandsFor past since
-rests run stood = record {
-  stands = λ known old. (run known old).0;
-  images = adds_less (run nothing stood).1 (λ image shows. shows.allowed);
-  sound_images = λ old. adds_less (run matching old).1 (λ image shows. shows.matching);
-  whole_images = adds_less (run nothing stood).1 (λ image shows. shows.whole);
-}
+    Stood nothing cells → IsQuiet cells Stood StandsFor past since × AddsOnly past since OneWhole
+rests run stood = (
+  record {
+    stands = λ known old. (run known old).0;
+    images = adds_less (run nothing stood).1 (λ image shows. shows.allowed);
+    sound_images = λ old. adds_less (run matching old).1 (λ image shows. shows.matching);
+  },
+  adds_less (run nothing stood).1 (λ image shows. shows.whole),
+)

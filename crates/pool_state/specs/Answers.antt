@@ -3,7 +3,6 @@ use Rattle.std.specs.Prelude.{ℕ, ◌^◌, ◌⊎◌, Bool, true, false, Option
 use Rattle.disk_model.specs.Files.{Files}
 use Rattle.disk_model.specs.Moments.{AddsOnly}
 use Rattle.map_model.specs.Allows.{AllowsImage}
-use Rattle.map_model.specs.Copies.{OneWhole}
 use Rattle.map_model.specs.Sound.{Knowledge, matching, IsSound}
 use Rattle.map_model.specs.Cells.{Cell, Cells}
 use Rattle.map_model.specs.Steps.{Command, Room, Step}
@@ -78,21 +77,19 @@ pub record StepsTo (id : ℕ) (command : Command) (answer : Reply) (Says : Cell 
   pub stands : (known : Knowledge) → Stood known cells → StandsFor known (with_cell cells id cell)
 
 -- A tenure takes a step of the cells; and every image that a crash can leave meanwhile is allowed by the cells before or after,
--- is sound where each meta matched, and has one whole copy of each block at most.
+-- and is sound where each meta matched.
 pub record TakesStep (id : ℕ) (command : Command) (answer : Reply) (Says : Cell → Type 0) (cells : Cells)
     (Stood StandsFor : Knowledge → Cells → Type 0) (past since : ℕ → Files → Type 0) : Type 0 where
   pub to : StepsTo id command answer Says cells Stood StandsFor
   pub images : AddsOnly past since (AllowedByEither cells (with_cell cells id to.cell))
   pub sound_images : Stood matching cells → AddsOnly past since IsSound
-  pub whole_images : AddsOnly past since OneWhole
 
 -- A tenure is quiet: what stood for the cells stands for them, and every image that a crash can leave meanwhile is allowed by them,
--- is sound where each meta matched, and has one whole copy of each block at most.
+-- and is sound where each meta matched.
 pub record IsQuiet (cells : Cells) (Stood StandsFor : Knowledge → Cells → Type 0) (past since : ℕ → Files → Type 0) : Type 0 where
   pub stands : (known : Knowledge) → Stood known cells → StandsFor known cells
   pub images : AddsOnly past since (AllowsImage cells)
   pub sound_images : Stood matching cells → AddsOnly past since IsSound
-  pub whole_images : AddsOnly past since OneWhole
 
 -- the entry is that of an open writer
 abbrev pub IsWritingState : State → Type 0

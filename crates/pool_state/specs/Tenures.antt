@@ -4,6 +4,8 @@ use Rattle.disk_model.specs.declared.disks.PoolDisks.{Ghosts}
 use Rattle.disk_model.specs.declared.disks.Draft as drafts
 use Rattle.disk_model.specs.declared.disks.SealedDraft as sealed
 use Rattle.disk_model.specs.declared.disks.Reader as readers
+use Rattle.disk_model.specs.Moments.{AddsOnly}
+use Rattle.map_model.specs.Copies.{OneWhole}
 use Rattle.map_model.specs.Cells.{Replica, Cell, Cells, absent, final, unsure}
 use Rattle.map_model.specs.Sound.{Knowledge, learned}
 use Rattle.map_model.specs.Steps.{Command, Reply, finish, delete, half_deleted}
@@ -57,3 +59,7 @@ module _ {D S T R : Type 0} {g : Ghosts D S T R} {d : drafts.Ghosts T S} {s : se
   abbrev pub Deletes : {U : Type 0} → (id : ℕ) → Result U DeleteFault → Cells → (old new : Pool D S T R g d s r) → Type 0
   Deletes id result cells old new = Takes id delete (delete_reply result)
       (λ cell. (IsErrOf result Failed → cell ≡ half_deleted (cells id)) × (IsOk result → cell ≡ absent)) cells old new
+
+  -- of each block that has a copy in an image that a crash could leave meanwhile, one whole copy stands alone
+  abbrev pub KeepsWhole : (old new : Pool D S T R g d s r) → Type 0
+  KeepsWhole old new = AddsOnly (g.left_since old.disks) (g.left_since new.disks) OneWhole

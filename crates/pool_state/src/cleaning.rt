@@ -8,7 +8,7 @@ ghost use Rattle.map_model.specs.Sound.{nothing};
 ghost use Rattle.volume_layout.specs.BlockFiles.{is_file};
 ghost use Rattle.pool_state.specs.Books.{entry_at, found_at, with_state, IsFirstOf};
 ghost use Rattle.pool_state.specs.Reaching.{RemovesFiles};
-ghost use Rattle.pool_state.specs.Tenures.{Rests};
+ghost use Rattle.pool_state.specs.Tenures.{Rests, KeepsWhole};
 ghost use Rattle.pool_state.specs.Stands.{Stands, StandsForSome};
 ghost use Rattle.pool_state.specs.declared.entry.State.TheVariants.{Waiting};
 
@@ -54,7 +54,7 @@ impl<D: PoolDisks> Pool<D> {
         requires entry { entry_at self.old.map id ≡ Some entry.now }
         requires state { entry.now.state ≡ Waiting block meta }
         requires stands { StandsForSome self.old }
-        ensures quiet { (cells : Cells) → Stands self.old nothing cells → Rests cells self.old self.new }
+        ensures quiet { (cells : Cells) → Stands self.old nothing cells → Rests cells self.old self.new × KeepsWhole self.old self.new }
         ensures done { OnOk result (entry_at self.new.map id ≡ Some (with_state (Waiting false false) entry.now)) }
         ensures none { OnOk result (found_at self.new.map id ≡ []) }
         ensures valid { IsBlockId id }
@@ -79,7 +79,7 @@ impl<D: PoolDisks> Pool<D> {
         requires entry { entry_at self.old.map id ≡ Some entry.now }
         requires state { entry.now.state ≡ Waiting block meta }
         requires stands { StandsForSome self.old }
-        ensures quiet { (cells : Cells) → Stands self.old nothing cells → Rests cells self.old self.new }
+        ensures quiet { (cells : Cells) → Stands self.old nothing cells → Rests cells self.old self.new × KeepsWhole self.old self.new }
         ensures done { OnOk result (entry_at self.new.map id ≡ Some (with_state (Waiting false meta) entry.now)) }
         ensures others { (other : ℕ) → other ≢ id → entry_at self.new.map other ≡ entry_at self.old.map other }
         ensures goes_on { GoesOn D.PoolDisks self.old.disks self.new.disks }
@@ -99,7 +99,7 @@ impl<D: PoolDisks> Pool<D> {
     fn clean_meta(&mut self, id: BlockId, entry: &Entry, meta: bool) -> Result<(), Failed>
         requires entry { entry_at self.old.map id ≡ Some (with_state (Waiting false meta) entry.now) }
         requires stands { StandsForSome self.old }
-        ensures quiet { (cells : Cells) → Stands self.old nothing cells → Rests cells self.old self.new }
+        ensures quiet { (cells : Cells) → Stands self.old nothing cells → Rests cells self.old self.new × KeepsWhole self.old self.new }
         ensures done { OnOk result (entry_at self.new.map id ≡ Some (with_state (Waiting false false) entry.now)) }
         ensures others { (other : ℕ) → other ≢ id → entry_at self.new.map other ≡ entry_at self.old.map other }
         ensures goes_on { GoesOn D.PoolDisks self.old.disks self.new.disks }
@@ -125,7 +125,7 @@ impl<D: PoolDisks> Pool<D> {
     /// Removes the files that the opening found of a block. One that was removed is no longer listed.
     fn clean_found(&mut self, id: BlockId) -> Result<(), Failed>
         requires stands { StandsForSome self.old }
-        ensures quiet { (cells : Cells) → Stands self.old nothing cells → Rests cells self.old self.new }
+        ensures quiet { (cells : Cells) → Stands self.old nothing cells → Rests cells self.old self.new × KeepsWhole self.old self.new }
         ensures done { OnOk result (found_at self.new.map id ≡ []) }
         ensures entries { (other : ℕ) → entry_at self.new.map other ≡ entry_at self.old.map other }
         ensures goes_on { GoesOn D.PoolDisks self.old.disks self.new.disks }
@@ -144,7 +144,7 @@ impl<D: PoolDisks> Pool<D> {
     fn clean_one(&mut self, id: BlockId, at: usize) -> Result<(), Failed>
         requires first { IsFirstOf id self.old.map.found.items at }
         requires stands { StandsForSome self.old }
-        ensures quiet { (cells : Cells) → Stands self.old nothing cells → Rests cells self.old self.new }
+        ensures quiet { (cells : Cells) → Stands self.old nothing cells → Rests cells self.old self.new × KeepsWhole self.old self.new }
         ensures fewer { OnOk result (suc (length self.new.map.found.items) ≡ length self.old.map.found.items) }
         ensures entries { (other : ℕ) → entry_at self.new.map other ≡ entry_at self.old.map other }
         ensures goes_on { GoesOn D.PoolDisks self.old.disks self.new.disks }

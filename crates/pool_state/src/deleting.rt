@@ -6,7 +6,7 @@ ghost use Rattle.map_model.specs.Cells.{Cells};
 ghost use Rattle.map_model.specs.Sound.{nothing};
 ghost use Rattle.map_model.specs.Steps.{Step, delete, delete_refusal};
 ghost use Rattle.pool_state.specs.Answers.{unlimited, delete_fault};
-ghost use Rattle.pool_state.specs.Tenures.{Deletes, state_refusal};
+ghost use Rattle.pool_state.specs.Tenures.{Deletes, state_refusal, KeepsWhole};
 ghost use Rattle.volume_layout.specs.Paths.{IsBlockId};
 ghost use Rattle.pool_state.specs.Books.{entry_at};
 ghost use Rattle.pool_state.specs.Stands.{Stands, StandsForSome};
@@ -48,7 +48,7 @@ impl<D: PoolDisks> Pool<D> {
     /// doubt, and any other block is as before. It takes no memory.
     pub fn delete(&mut self, id: BlockId) -> Result<(), DeleteFault>
         requires stands { StandsForSome self.old }
-        ensures step { (cells : Cells) → Stands self.old nothing cells → Deletes id result cells self.old self.new }
+        ensures step { (cells : Cells) → Stands self.old nothing cells → Deletes id result cells self.old self.new × KeepsWhole self.old self.new }
         ensures others { (other : ℕ) → other ≢ id → entry_at self.new.map other ≡ entry_at self.old.map other }
         ensures goes_on { GoesOn D.PoolDisks self.old.disks self.new.disks }
         ensures failed { IsErrOf result DeleteFault.Failed → Rose (D.faults self.old.disks) (D.faults self.new.disks) }
@@ -69,7 +69,7 @@ impl<D: PoolDisks> Pool<D> {
         requires entry { entry_at self.old.map id ≡ Some entry.now }
         requires state { entry.now.state ≡ Finalised }
         requires stands { StandsForSome self.old }
-        ensures step { (cells : Cells) → Stands self.old nothing cells → Deletes id result cells self.old self.new }
+        ensures step { (cells : Cells) → Stands self.old nothing cells → Deletes id result cells self.old self.new × KeepsWhole self.old self.new }
         ensures others { (other : ℕ) → other ≢ id → entry_at self.new.map other ≡ entry_at self.old.map other }
         ensures goes_on { GoesOn D.PoolDisks self.old.disks self.new.disks }
         ensures failed { IsErr result → Rose (D.faults self.old.disks) (D.faults self.new.disks) }
@@ -92,7 +92,7 @@ impl<D: PoolDisks> Pool<D> {
         requires entry { entry_at self.old.map id ≡ Some entry.now }
         requires state { entry.now.state ≡ Unsure }
         requires stands { StandsForSome self.old }
-        ensures step { (cells : Cells) → Stands self.old nothing cells → Deletes id result cells self.old self.new }
+        ensures step { (cells : Cells) → Stands self.old nothing cells → Deletes id result cells self.old self.new × KeepsWhole self.old self.new }
         ensures others { (other : ℕ) → other ≢ id → entry_at self.new.map other ≡ entry_at self.old.map other }
         ensures goes_on { GoesOn D.PoolDisks self.old.disks self.new.disks }
         ensures failed { IsErr result → Rose (D.faults self.old.disks) (D.faults self.new.disks) }
@@ -123,7 +123,7 @@ impl<D: PoolDisks> Pool<D> {
         requires entry { entry_at self.old.map id ≡ Some entry.now }
         requires state { entry.now.state ≡ Waiting block meta }
         requires stands { StandsForSome self.old }
-        ensures step { (cells : Cells) → Stands self.old nothing cells → Deletes id result cells self.old self.new }
+        ensures step { (cells : Cells) → Stands self.old nothing cells → Deletes id result cells self.old self.new × KeepsWhole self.old self.new }
         ensures others { (other : ℕ) → other ≢ id → entry_at self.new.map other ≡ entry_at self.old.map other }
         ensures goes_on { GoesOn D.PoolDisks self.old.disks self.new.disks }
         ensures failed { IsErr result → Rose (D.faults self.old.disks) (D.faults self.new.disks) }

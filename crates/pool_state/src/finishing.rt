@@ -7,7 +7,7 @@ ghost use Rattle.map_model.specs.Sound.{nothing};
 ghost use Rattle.map_model.specs.Steps.{Command, Step, finish, drop_write, failed};
 ghost use Rattle.pool_state.specs.Answers.{unlimited, finish_reply, IsWritten};
 ghost use Rattle.pool_state.specs.Books.{entry_at};
-ghost use Rattle.pool_state.specs.Tenures.{Takes, PairBelongs, Finishes};
+ghost use Rattle.pool_state.specs.Tenures.{Takes, PairBelongs, Finishes, KeepsWhole};
 ghost use Rattle.pool_state.specs.Stands.{Stands, StandsForSome};
 ghost use Rattle.pair_draft.specs.Writers.{writer_of};
 ghost use Rattle.pool_state.specs.Writers.{meta_of, WriterBelongs};
@@ -24,7 +24,7 @@ impl<D: PoolDisks> Pool<D> {
         requires stands { StandsForSome self.old }
         requires belongs { (bytes : List ℕ) × PairBelongs self.old pair bytes }
         ensures step { (cells : Cells) (bytes : List ℕ) (left : ℕ) (belongs : PairBelongs self.old pair bytes) → Stands self.old nothing cells →
-            cells pair.id ≡ growing pair.stamp None bytes left → Finishes pair.id pair.stamp result bytes (meta_of belongs) cells self.old self.new }
+            cells pair.id ≡ growing pair.stamp None bytes left → Finishes pair.id pair.stamp result bytes (meta_of belongs) cells self.old self.new × KeepsWhole self.old self.new }
         ensures others { (other : ℕ) → other ≢ pair.id → entry_at self.new.map other ≡ entry_at self.old.map other }
         ensures goes_on { GoesOn D.PoolDisks self.old.disks self.new.disks }
         ensures failed { IsErr result → Rose (D.faults self.old.disks) (D.faults self.new.disks) }
@@ -70,7 +70,7 @@ impl<D: PoolDisks> Pool<D> {
             cells writer.id ≡ growing writer.stamp None bytes left →
             Takes writer.id drop_write (finish_reply result)
             (λ cell. (IsErr result → cell ≡ waiting) × (IsOk result → cell ≡ absent))
-            cells self.old self.new }
+            cells self.old self.new × KeepsWhole self.old self.new }
         ensures others { (other : ℕ) → other ≢ writer.id → entry_at self.new.map other ≡ entry_at self.old.map other }
         ensures goes_on { GoesOn D.PoolDisks self.old.disks self.new.disks }
         ensures failed { IsErr result → Rose (D.faults self.old.disks) (D.faults self.new.disks) }
@@ -112,7 +112,7 @@ impl<D: PoolDisks> Pool<D> {
         requires writes { IsWritten (entry_at self.old.map writer.id) }
         ensures step { (cells : Cells) (command : Command) (stamp left : ℕ) (bytes : List ℕ) → Stands self.old nothing cells →
             cells writer.id ≡ growing stamp None bytes left → Step unlimited (growing stamp None bytes left) command failed waiting →
-            Takes writer.id command failed (λ cell. cell ≡ waiting) cells self.old self.new }
+            Takes writer.id command failed (λ cell. cell ≡ waiting) cells self.old self.new × KeepsWhole self.old self.new }
         ensures others { (other : ℕ) → other ≢ writer.id → entry_at self.new.map other ≡ entry_at self.old.map other }
         ensures disks { self.new.disks ≡ self.old.disks }
     {

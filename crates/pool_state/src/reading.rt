@@ -10,7 +10,7 @@ ghost use Rattle.volume_layout.specs.BlockFiles.{path_of};
 ghost use Rattle.map_model.specs.Steps.{Step, read};
 ghost use Rattle.pool_state.specs.Answers.{unlimited, start_fault, read_fault};
 ghost use Rattle.pool_state.specs.Books.{entry_at};
-ghost use Rattle.pool_state.specs.Tenures.{Rests};
+ghost use Rattle.pool_state.specs.Tenures.{Rests, KeepsWhole};
 ghost use Rattle.pool_state.specs.Stands.{Stands, StandsForSome};
 ghost use Rattle.pool_state.specs.Readers.{reader_bytes, block_bytes, meta_bytes, file_of, Lends, AreFiles, LooksForPair};
 
@@ -61,7 +61,7 @@ impl<D: PoolDisks> Pool<D> {
         requires stands { StandsForSome self.old }
         ensures map { self.new.map ≡ self.old.map }
         ensures quiet { (cells : Cells) → Stands self.old nothing cells →
-            Rests cells self.old self.new }
+            Rests cells self.old self.new × KeepsWhole self.old self.new }
         ensures refused { (cells : Cells) → Stands self.old nothing cells →
             IfErr result (λ fault. Step unlimited (cells id) read (start_fault fault) (cells id)) }
         ensures lent { (known : Knowledge) (cells : Cells) → Stands self.old known cells →

@@ -8,7 +8,7 @@ ghost use Rattle.map_model.specs.Steps.{Step, start_write, memory};
 ghost use Rattle.volume_layout.specs.Paths.{IsBlockId};
 ghost use Rattle.pool_state.specs.Answers.{unlimited, start_fault, start_reply, write_fault};
 ghost use Rattle.pool_state.specs.Books.{entry_at};
-ghost use Rattle.pool_state.specs.Tenures.{Takes};
+ghost use Rattle.pool_state.specs.Tenures.{Takes, KeepsWhole};
 ghost use Rattle.pool_state.specs.Stands.{Stands, StandsForSome};
 ghost use Rattle.pair_draft.specs.Writers.{writer_of};
 ghost use Rattle.pool_state.specs.Writers.{WriterStands};
@@ -55,7 +55,7 @@ impl<D: PoolDisks> Pool<D> {
             × (result ≡ Err StartFault.Memory → cell ≡ waiting → D.next_number self.old.disks < D.next_number self.new.disks)
             × (IsErr result → (cell ≡ cells id) ⊎ (cell ≡ waiting))
             × (IsOk result → cell ≡ growing stamp None [] need))
-            cells self.old self.new }
+            cells self.old self.new × KeepsWhole self.old self.new }
         ensures others { (other : ℕ) → other ≢ id → entry_at self.new.map other ≡ entry_at self.old.map other }
         ensures writer { IfOk result (λ w. WriterStands (D.worlds self.new.disks) (entry_at self.new.map) (writer_of D.Draft.place D.Draft.bytes w) []) }
         ensures what { IfOk result (λ w. (w.id ≡ id) × (w.stamp ≡ stamp) × (w.reserved ≡ need)) }

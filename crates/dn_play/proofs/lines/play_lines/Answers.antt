@@ -5,18 +5,18 @@ use Rattle.dn_play.specs.Answer.{Played}
 use Rattle.disk_model.specs.Marks.{faulty_of, mark_of}
 use Rattle.dn_play.specs.Standing.{SessionStands, SoundFor, LeavesAllowed, AnyCells}
 use Rattle.dn_play.proofs.Progress.{starts, goes_on_by, played_nothing, played_complete, played_fault, played_unanswered, played_less, rose_from, ends_lines, answered_complete, answered_source}
-use Rattle.dn_play.proofs.Crashes.{now_allowed, leaves_safe}
+use Rattle.dn_play.proofs.Crashes.{now_safe, leaves_safe}
 use Rattle.disk_model.proofs.GoingOn.{went_same, went_then}
 use Rattle.dn_play.proofs.lines.play_lines.Goals as goal
 
 pub returns-in_default-clause-played : goal.returns-in_default-clause-played
 returns-in_default-clause-played g c state standing =
     played_less {StandsFor = SessionStands c.args.session.now}
-    (played_nothing standing (now_allowed standing.pool (g.met.D.PoolDisks.only_now c.args.session.now.pool.disks)) _ _) (λ s stood. leaves_safe stood.pool)
+    (played_nothing standing (now_safe standing.pool (g.met.D.PoolDisks.only_now c.args.session.now.pool.disks)) _ _) (λ s stood. leaves_safe stood.pool)
 
 pub lines-init : goal.lines-init
 lines-init g c = let none_yet = c.new-reader.ensures.count in record {
-  progress = λ state standing. starts standing (now_allowed standing.pool (g.met.D.PoolDisks.only_now c.args.session.now.pool.disks)) _ _ _ _ c.new-reader.ensures.nothing c.new-reader.ensures.count;
+  progress = λ state standing. starts standing (now_safe standing.pool (g.met.D.PoolDisks.only_now c.args.session.now.pool.disks)) _ _ _ _ c.new-reader.ensures.nothing c.new-reader.ensures.count;
   went_on = went_same _ _;
   counted = omega arith;
   in_limit = omega arith;

@@ -7,8 +7,7 @@ use Rattle.disk_model.proofs.Laws.{goes_on}
 use Rattle.pool_open.specs.Plan.{texts}
 use Rattle.pool_open.specs.Clearing.{LeftCleared}
 use Rattle.pool_open.proofs.Lists.{text_at}
-use Rattle.disk_model.proofs.GoingOn.{went_then}
-use Rattle.pool_open.proofs.Looks.{goes_by}
+use Rattle.disk_model.proofs.GoingOn.{went_call, went_then}
 use Rattle.pool_open.proofs.Removals.{comes_more, left_more, clear_more, all_clear}
 use Rattle.pool_open.proofs.clearing.clear_paths.Goals as goal
 
@@ -49,11 +48,16 @@ loop-at-preserved g c =
           (left_more (texts c.args.paths.now) c.as_str.result.now has (g.D.PoolDisks.worlds c.args.disks.now) (g.D.PoolDisks.worlds c.args.disks.now) (g.D.PoolDisks.worlds c.remove.new.self) comes);
       goes_on = went_then g.D.PoolDisks c.args.disks.now c.loop-at.disks c.remove.new.self
           c.loop-at.invariant.goes_on
-          (goes_by g.D.PoolDisks c.loop-at.disks c.remove.new.self
-          c.remove.ensures.worlds.honest c.remove.ensures.cause.later c.remove.ensures.absences c.remove.ensures.numbers c.remove.ensures.time.later c.remove.ensures.volumes);
+          (went_call g.D.PoolDisks (g.met.D.PoolDisks.counts_now _) c.remove.ensures.time
+          c.remove.ensures.worlds.honest c.remove.ensures.cause.later c.remove.ensures.absences (omega (arith, c.remove.ensures.numbers)) c.remove.ensures.volumes);
     }
 
 pub returns-clause-all : goal.returns-clause-all
 returns-clause-all g c = λ world is.
     let long : length (texts c.args.paths.now) ≡ length c.args.paths.now = length-map c.args.paths.now string_bytes in
     all_clear (texts c.args.paths.now) c.loop-at.at (omega (arith, c.loop-at-test.false, long)) world (c.loop-at.invariant.clear world is)
+
+pub returns-in_err-remove-clause-goes_on : goal.returns-in_err-remove-clause-goes_on
+returns-in_err-remove-clause-goes_on g c = went_then g.D.PoolDisks _ _ _ c.loop-at.invariant.goes_on
+    (went_call g.D.PoolDisks (g.met.D.PoolDisks.counts_now _) c.remove.ensures.time
+    c.remove.ensures.worlds.honest c.remove.ensures.cause.later c.remove.ensures.absences (omega (arith, c.remove.ensures.numbers)) c.remove.ensures.volumes)

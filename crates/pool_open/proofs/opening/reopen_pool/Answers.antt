@@ -5,6 +5,7 @@ use Rattle.pool_state.specs.Books.{entry_at, found_at}
 use Rattle.pool_open.specs.Plan.{texts}
 use Rattle.pool_open.specs.Clearing.{AreClear, ComesCleared, LeftCleared}
 use Rattle.pool_open.proofs.Looks.{looks_then}
+use Rattle.disk_model.proofs.GoingOn.{went_then}
 use Rattle.pool_open.proofs.Opened.{plan_of}
 use Rattle.pool_open.proofs.Opens.{IsOpening, opens}
 use Rattle.pool_open.proofs.Ending.{looked, looked_images, joined, none_told, meanwhile_before, table_of, left_two_metas, told_no_two_metas}
@@ -13,19 +14,19 @@ use Rattle.pool_open.proofs.opening.reopen_pool.Goals as goal
 pub returns-in-Err-Failed-clause-images : goal.returns-in-Err-Failed-clause-images
 returns-in-Err-Failed-clause-images g c =
     let looks = looked g.D.PoolDisks c.args.pool.now.disks c.survey_volume.new.disks
-    c.survey_volume.ensures.looks c.survey_volume.ensures.honest c.survey_volume.ensures.cause.later c.survey_volume.ensures.absences c.survey_volume.ensures.numbers c.survey_volume.ensures.volumes c.survey_volume.ensures.time in
+    c.survey_volume.ensures.looks c.survey_volume.ensures.honest c.survey_volume.ensures.cause.later c.survey_volume.ensures.absences c.survey_volume.ensures.numbers c.survey_volume.ensures.volumes c.survey_volume.ensures.time (g.met.D.PoolDisks.counts_now c.survey_volume.new.disks) in
     looked_images g.D.PoolDisks c.args.pool.now.disks c.survey_volume.new.disks looks c.requires.aside
 
 pub returns-in-Err-Memory-clause-images : goal.returns-in-Err-Memory-clause-images
 returns-in-Err-Memory-clause-images g c =
     let looks = looked g.D.PoolDisks c.args.pool.now.disks c.survey_volume.new.disks
-    c.survey_volume.ensures.looks c.survey_volume.ensures.honest c.survey_volume.ensures.cause.later c.survey_volume.ensures.absences c.survey_volume.ensures.numbers c.survey_volume.ensures.volumes c.survey_volume.ensures.time in
+    c.survey_volume.ensures.looks c.survey_volume.ensures.honest c.survey_volume.ensures.cause.later c.survey_volume.ensures.absences c.survey_volume.ensures.numbers c.survey_volume.ensures.volumes c.survey_volume.ensures.time (g.met.D.PoolDisks.counts_now c.survey_volume.new.disks) in
     looked_images g.D.PoolDisks c.args.pool.now.disks c.survey_volume.new.disks looks c.requires.aside
 
 pub returns-in-Some-clause-images : goal.returns-in-Some-clause-images
 returns-in-Some-clause-images g c =
     let looks = looked g.D.PoolDisks c.args.pool.now.disks c.survey_volume.new.disks
-    c.survey_volume.ensures.looks c.survey_volume.ensures.honest c.survey_volume.ensures.cause.later c.survey_volume.ensures.absences c.survey_volume.ensures.numbers c.survey_volume.ensures.volumes c.survey_volume.ensures.time in
+    c.survey_volume.ensures.looks c.survey_volume.ensures.honest c.survey_volume.ensures.cause.later c.survey_volume.ensures.absences c.survey_volume.ensures.numbers c.survey_volume.ensures.volumes c.survey_volume.ensures.time (g.met.D.PoolDisks.counts_now c.survey_volume.new.disks) in
     looked_images g.D.PoolDisks c.args.pool.now.disks c.survey_volume.new.disks looks c.requires.aside
 
 pub returns-in-Some-clause-two_metas : goal.returns-in-Some-clause-two_metas
@@ -36,21 +37,21 @@ returns-in-Some-clause-two_metas g c is image leaves =
 pub returns-in-Err-Failed-make_books-clause-images : goal.returns-in-Err-Failed-make_books-clause-images
 returns-in-Err-Failed-make_books-clause-images g c =
     let looks = looked g.D.PoolDisks c.args.pool.now.disks c.survey_volume.new.disks
-    c.survey_volume.ensures.looks c.survey_volume.ensures.honest c.survey_volume.ensures.cause.later c.survey_volume.ensures.absences c.survey_volume.ensures.numbers c.survey_volume.ensures.volumes c.survey_volume.ensures.time in
+    c.survey_volume.ensures.looks c.survey_volume.ensures.honest c.survey_volume.ensures.cause.later c.survey_volume.ensures.absences c.survey_volume.ensures.numbers c.survey_volume.ensures.volumes c.survey_volume.ensures.time (g.met.D.PoolDisks.counts_now c.survey_volume.new.disks) in
     let both = looks_then g.D.PoolDisks c.args.pool.now.disks c.survey_volume.new.disks c.make_books.new.disks looks c.make_books.ensures.looks in
     looked_images g.D.PoolDisks c.args.pool.now.disks c.make_books.new.disks both c.requires.aside
 
 pub returns-in-Err-Memory-make_books-clause-images : goal.returns-in-Err-Memory-make_books-clause-images
 returns-in-Err-Memory-make_books-clause-images g c =
     let looks = looked g.D.PoolDisks c.args.pool.now.disks c.survey_volume.new.disks
-    c.survey_volume.ensures.looks c.survey_volume.ensures.honest c.survey_volume.ensures.cause.later c.survey_volume.ensures.absences c.survey_volume.ensures.numbers c.survey_volume.ensures.volumes c.survey_volume.ensures.time in
+    c.survey_volume.ensures.looks c.survey_volume.ensures.honest c.survey_volume.ensures.cause.later c.survey_volume.ensures.absences c.survey_volume.ensures.numbers c.survey_volume.ensures.volumes c.survey_volume.ensures.time (g.met.D.PoolDisks.counts_now c.survey_volume.new.disks) in
     let both = looks_then g.D.PoolDisks c.args.pool.now.disks c.survey_volume.new.disks c.make_books.new.disks looks c.make_books.ensures.looks in
     looked_images g.D.PoolDisks c.args.pool.now.disks c.make_books.new.disks both c.requires.aside
 
 pub returns-in-Err-clause-images : goal.returns-in-Err-clause-images
 returns-in-Err-clause-images g c =
     let looks = looked g.D.PoolDisks c.args.pool.now.disks c.survey_volume.new.disks
-    c.survey_volume.ensures.looks c.survey_volume.ensures.honest c.survey_volume.ensures.cause.later c.survey_volume.ensures.absences c.survey_volume.ensures.numbers c.survey_volume.ensures.volumes c.survey_volume.ensures.time in
+    c.survey_volume.ensures.looks c.survey_volume.ensures.honest c.survey_volume.ensures.cause.later c.survey_volume.ensures.absences c.survey_volume.ensures.numbers c.survey_volume.ensures.volumes c.survey_volume.ensures.time (g.met.D.PoolDisks.counts_now c.survey_volume.new.disks) in
     let both = looks_then g.D.PoolDisks c.args.pool.now.disks c.survey_volume.new.disks c.make_books.new.disks looks c.make_books.ensures.looks in
     looked_images g.D.PoolDisks c.args.pool.now.disks c.make_books.new.disks both c.requires.aside
 
@@ -148,3 +149,33 @@ pub returns-in-Ok-clear_paths-clause-one_meta : goal.returns-in-Ok-clear_paths-c
 returns-in-Ok-clear_paths-clause-one_meta g c image holds is_ok =
     let table = table_of c.in-Ok.survey c.in-Ok.ensures.blocks c.find_several.ensures.listed c.in_default.ensures.none in
     told_no_two_metas image c.in-Ok.survey (g.D.PoolDisks.worlds c.args.pool.now.disks) (g.D.PoolDisks.worlds c.survey_volume.new.disks) holds c.in-Ok.ensures.ok c.in-Ok.ensures.blocks table.few
+
+pub returns-in-Err-Failed-make_books-clause-goes_on : goal.returns-in-Err-Failed-make_books-clause-goes_on
+returns-in-Err-Failed-make_books-clause-goes_on g c =
+    let looks = looked g.D.PoolDisks c.args.pool.now.disks c.survey_volume.new.disks
+    c.survey_volume.ensures.looks c.survey_volume.ensures.honest c.survey_volume.ensures.cause.later c.survey_volume.ensures.absences c.survey_volume.ensures.numbers c.survey_volume.ensures.volumes c.survey_volume.ensures.time (g.met.D.PoolDisks.counts_now c.survey_volume.new.disks) in
+    went_then g.D.PoolDisks _ _ _ looks.goes_on c.make_books.ensures.looks.goes_on
+
+pub returns-in-Err-Memory-make_books-clause-goes_on : goal.returns-in-Err-Memory-make_books-clause-goes_on
+returns-in-Err-Memory-make_books-clause-goes_on g c =
+    let looks = looked g.D.PoolDisks c.args.pool.now.disks c.survey_volume.new.disks
+    c.survey_volume.ensures.looks c.survey_volume.ensures.honest c.survey_volume.ensures.cause.later c.survey_volume.ensures.absences c.survey_volume.ensures.numbers c.survey_volume.ensures.volumes c.survey_volume.ensures.time (g.met.D.PoolDisks.counts_now c.survey_volume.new.disks) in
+    went_then g.D.PoolDisks _ _ _ looks.goes_on c.make_books.ensures.looks.goes_on
+
+pub returns-in-Err-clause-goes_on : goal.returns-in-Err-clause-goes_on
+returns-in-Err-clause-goes_on g c =
+    let looks = looked g.D.PoolDisks c.args.pool.now.disks c.survey_volume.new.disks
+    c.survey_volume.ensures.looks c.survey_volume.ensures.honest c.survey_volume.ensures.cause.later c.survey_volume.ensures.absences c.survey_volume.ensures.numbers c.survey_volume.ensures.volumes c.survey_volume.ensures.time (g.met.D.PoolDisks.counts_now c.survey_volume.new.disks) in
+    went_then g.D.PoolDisks _ _ _ looks.goes_on c.make_books.ensures.looks.goes_on
+
+pub returns-in-Ok-clear_paths-clause-goes_on : goal.returns-in-Ok-clear_paths-clause-goes_on
+returns-in-Ok-clear_paths-clause-goes_on g c =
+    let looks = looked g.D.PoolDisks c.args.pool.now.disks c.survey_volume.new.disks
+    c.survey_volume.ensures.looks c.survey_volume.ensures.honest c.survey_volume.ensures.cause.later c.survey_volume.ensures.absences c.survey_volume.ensures.numbers c.survey_volume.ensures.volumes c.survey_volume.ensures.time (g.met.D.PoolDisks.counts_now c.survey_volume.new.disks) in
+    went_then g.D.PoolDisks _ _ _ (went_then g.D.PoolDisks _ _ _ looks.goes_on c.make_books.ensures.looks.goes_on) c.clear_paths.ensures.goes_on
+
+pub returns-clause-goes_on : goal.returns-clause-goes_on
+returns-clause-goes_on g c =
+    let looks = looked g.D.PoolDisks c.args.pool.now.disks c.survey_volume.new.disks
+    c.survey_volume.ensures.looks c.survey_volume.ensures.honest c.survey_volume.ensures.cause.later c.survey_volume.ensures.absences c.survey_volume.ensures.numbers c.survey_volume.ensures.volumes c.survey_volume.ensures.time (g.met.D.PoolDisks.counts_now c.survey_volume.new.disks) in
+    went_then g.D.PoolDisks _ _ _ (went_then g.D.PoolDisks _ _ _ looks.goes_on c.make_books.ensures.looks.goes_on) c.clear_paths.ensures.goes_on

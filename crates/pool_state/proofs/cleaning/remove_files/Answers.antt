@@ -1,5 +1,6 @@
 use Rattle.std.proofs.Common.{◌∙◌, subst, arith}
 use Rattle.std.proofs.lemmas.Bool.{false≢true}
+use Rattle.disk_model.proofs.GoingOn.{went_call, went_then}
 use Rattle.pool_state.proofs.Removals.{RemovedSoFar, next_removed, removal_fails, all_removed, files_up_to, files_all}
 use Rattle.pool_state.proofs.Reaching.{reaches_removed_at, reaches_remove_at}
 use Rattle.pool_state.proofs.cleaning.remove_files.Goals as goal
@@ -20,18 +21,14 @@ loop-at-preserved g c = record {
       (files_up_to c.args.files.now c.loop-at.at c.index-files-at.result (omega (arith, c.loop-at-test.true, c.loop-at.auto.at-end)) c.index-files-at.is)
       c.remove.ensures.time.nothing_else
       (reaches_removed_at c.args.id c.args.vol c.index-files-at.result c.get-valid.ensures.in_range c.path.ensures.valid _ (c.as_str.ensures ∙ c.path.ensures.text) _ _ c.in-Ok.ensures.ok));
-  goes_on =
-      let was = c.loop-at.invariant.goes_on in
-      record {
-        honest = (λ told. c.remove.ensures.worlds.honest.0 (was.honest.0 told), λ told. was.honest.1 (c.remove.ensures.worlds.honest.1 told));
-        faults = omega (arith, was.faults, c.remove.ensures.cause.later);
-        absences = omega (arith, was.absences, c.remove.ensures.absences);
-        next_number = omega (arith, was.next_number, c.remove.ensures.numbers);
-        moment = omega (arith, was.moment, c.remove.ensures.time.later);
-        volume_count = c.remove.ensures.volumes ∙ was.volume_count;
-      };
+  goes_on = went_then g.D.PoolDisks _ _ _ c.loop-at.invariant.goes_on
+      (went_call g.D.PoolDisks (g.met.D.PoolDisks.counts_now _) c.remove.ensures.time c.remove.ensures.worlds.honest c.remove.ensures.cause.later c.remove.ensures.absences (omega (arith, c.remove.ensures.numbers)) c.remove.ensures.volumes);
 }
 
 pub returns-clause-removes : goal.returns-clause-removes
 returns-clause-removes g c =
     all_removed c.loop-at.invariant.so_far (files_all c.args.files.now c.loop-at.at (omega (arith, c.loop-at-test.false, c.loop-at.auto.at-end))) _
+
+pub returns-in-Err-clause-goes_on : goal.returns-in-Err-clause-goes_on
+returns-in-Err-clause-goes_on g c = went_then g.D.PoolDisks _ _ _ c.loop-at.invariant.goes_on
+    (went_call g.D.PoolDisks (g.met.D.PoolDisks.counts_now _) c.remove.ensures.time c.remove.ensures.worlds.honest c.remove.ensures.cause.later c.remove.ensures.absences (omega (arith, c.remove.ensures.numbers)) c.remove.ensures.volumes)

@@ -12,22 +12,22 @@ use Rattle.pool_state.proofs.tests.write_block.Goals as goal
 
 pub returns-in_err-writer : goal.returns-in_err-writer
 returns-in_err-writer g c =
-    let step = c.start_write.ensures.step c.requires.stands.0 c.requires.stands.1 in
+    let step = (c.start_write.ensures.step c.requires.stands.0 c.requires.stands.1).0 in
     record { stands = (with_cell c.requires.stands.0 c.args.id step.to.cell, step.to.stands _ c.requires.stands.1) }
 
 pub returns-then-is_err : goal.returns-then-is_err
 returns-then-is_err g c =
-    let step = c.start_write.ensures.step c.requires.stands.0 c.requires.stands.1 in
+    let step = (c.start_write.ensures.step c.requires.stands.0 c.requires.stands.1).0 in
     record { stands = (with_cell c.requires.stands.0 c.args.id step.to.cell, step.to.stands _ c.requires.stands.1) }
 
 pub returns-in_default : goal.returns-in_default
 returns-in_default g c =
-    let step = c.start_write.ensures.step c.requires.stands.0 c.requires.stands.1 in
+    let step = (c.start_write.ensures.step c.requires.stands.0 c.requires.stands.1).0 in
     record { stands = (with_cell c.requires.stands.0 c.args.id step.to.cell, step.to.stands _ c.requires.stands.1) }
 
 pub finish-requires-clause-stands : goal.finish-requires-clause-stands
 finish-requires-clause-stands g c =
-    let step = c.start_write.ensures.step c.requires.stands.0 c.requires.stands.1 in
+    let step = (c.start_write.ensures.step c.requires.stands.0 c.requires.stands.1).0 in
     (with_cell c.requires.stands.0 c.args.id step.to.cell, step.to.stands _ c.requires.stands.1)
 
 pub finish-requires-clause-belongs : goal.finish-requires-clause-belongs
@@ -44,7 +44,7 @@ finish-requires-clause-belongs g c =
 pub returns-in-Ok-finish : goal.returns-in-Ok-finish
 returns-in-Ok-finish g c =
     let cells = c.requires.stands.0 in
-    let started = c.start_write.ensures.step cells c.requires.stands.1 in
+    let started = (c.start_write.ensures.step cells c.requires.stands.1).0 in
     let what = c.in_ok-writer.ensures.what in
     let written = c.in_ok-writer.ensures.writer in
     let w = c.in_ok-writer.writer in
@@ -61,15 +61,15 @@ returns-in-Ok-finish g c =
     let grown = pushes _ _ _ (found_at c.start_write.new.self.map) (with_cell cells c.args.id started.to.cell) (writer_of g.D.Draft.Draft.place g.D.Draft.Draft.bytes w) [] piece new.stamp new.len new.reserved
     written grows (at_ok c.push.result not_err c.push.ensures.within) keeps.stamp (at_ok c.push.result not_err c.push.ensures.len) keeps.reserved in
     let left = new.reserved - new.len in
-    let ended = c.finish.ensures.step (with_cell (with_cell cells c.args.id started.to.cell) w.id grown.cell) piece left pair (grown.stands _ (started.to.stands _ c.requires.stands.1))
+    let ended = (c.finish.ensures.step (with_cell (with_cell cells c.args.id started.to.cell) w.id grown.cell) piece left pair (grown.stands _ (started.to.stands _ c.requires.stands.1))
     (own_cell (with_cell cells c.args.id started.to.cell) w.id c.in-Ok.pair.id grown.cell (sealed.id ∙ keeps.id)
-    ∙ grown.says ∙ ap (λ s. growing s None piece left) (sym sealed.stamp)) in
+    ∙ grown.says ∙ ap (λ s. growing s None piece left) (sym sealed.stamp))).0 in
     record { stands = (with_cell (with_cell (with_cell cells c.args.id started.to.cell) w.id grown.cell) c.in-Ok.pair.id ended.to.cell, ended.to.stands nothing (grown.stands _ (started.to.stands _ c.requires.stands.1))) }
 
 pub returns-in-Err : goal.returns-in-Err
 returns-in-Err g c =
     let cells = c.requires.stands.0 in
-    let started = c.start_write.ensures.step cells c.requires.stands.1 in
+    let started = (c.start_write.ensures.step cells c.requires.stands.1).0 in
     let what = c.in_ok-writer.ensures.what in
     let written = c.in_ok-writer.ensures.writer in
     let w = c.in_ok-writer.writer in
@@ -86,7 +86,7 @@ returns-in-Err g c =
     let grown = pushes _ _ _ (found_at c.start_write.new.self.map) (with_cell cells c.args.id started.to.cell) (writer_of g.D.Draft.Draft.place g.D.Draft.Draft.bytes w) [] piece new.stamp new.len new.reserved
     written grows (at_ok c.push.result not_err c.push.ensures.within) keeps.stamp (at_ok c.push.result not_err c.push.ensures.len) keeps.reserved in
     let left = new.reserved - new.len in
-    let ended = c.finish.ensures.step (with_cell (with_cell cells c.args.id started.to.cell) w.id grown.cell) piece left pair (grown.stands _ (started.to.stands _ c.requires.stands.1))
+    let ended = (c.finish.ensures.step (with_cell (with_cell cells c.args.id started.to.cell) w.id grown.cell) piece left pair (grown.stands _ (started.to.stands _ c.requires.stands.1))
     (own_cell (with_cell cells c.args.id started.to.cell) w.id c.in-Ok.pair.id grown.cell (sealed.id ∙ keeps.id)
-    ∙ grown.says ∙ ap (λ s. growing s None piece left) (sym sealed.stamp)) in
+    ∙ grown.says ∙ ap (λ s. growing s None piece left) (sym sealed.stamp))).0 in
     record { stands = (with_cell (with_cell (with_cell cells c.args.id started.to.cell) w.id grown.cell) c.in-Ok.pair.id ended.to.cell, ended.to.stands nothing (grown.stands _ (started.to.stands _ c.requires.stands.1))) }

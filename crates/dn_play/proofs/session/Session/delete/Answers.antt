@@ -22,20 +22,22 @@ pub returns-in-Ok-clause-step : goal.returns-in-Ok-clause-step
 returns-in-Ok-clause-step g c state standing =
     let id = c.args.id in
     let free = c.delete_refusal.ensures.none state.cells (loose standing) c.in_default.is in
-    let t = c.in-Ok.ensures.step state.cells (loose standing) in
+    let both = c.in-Ok.ensures.step state.cells (loose standing) in
+    let t = both.0 in
     let none = none_open _ _ id (state.cells id) (state.writers id) _ (deletable (state.cells id) free) (standing.writer id c.delete_refusal.ensures.valid) in
     carried_on t.to.cell
     (goes_on standing id t.to.cell state.writers (t.to.stands _ standing.pool) c.delete.ensures.goes_on.honest.1 c.delete.ensures.others (λ other apart. refl) (λ other apart. refl)
     (subst (λ o. MatchOption o (NotGrowing t.to.cell) (OpenWriter (g.D.PoolDisks.worlds c.delete.new.self.disks) (entry_at c.delete.new.self.map) id t.to.cell (state.writers id))) (sym none)
     (subst NotGrowing (sym (t.to.says.1 refl)) tt)))
-    (crash_takes t) done (λ trust known. refl) t.to.step (λ e. absurd cc) (λ e w. absurd cc) refl refl (λ no. absurd no)
+    (crash_takes both) done (λ trust known. refl) t.to.step (λ e. absurd cc) (λ e w. absurd cc) refl refl (λ no. absurd no)
 
 pub returns-in-Err-clause-step : goal.returns-in-Err-clause-step
 returns-in-Err-clause-step g c state standing =
     let id = c.args.id in
     let fault = c.in-Err.fault in
     let free = c.delete_refusal.ensures.none state.cells (loose standing) c.in_default.is in
-    let t = c.in-Err.ensures.step state.cells (loose standing) in
+    let both = c.in-Err.ensures.step state.cells (loose standing) in
+    let t = both.0 in
     let is = only_failure (state.cells id) t.to.cell fault free t.to.step in
     let none = none_open _ _ id (state.cells id) (state.writers id) _ (deletable (state.cells id) free) (standing.writer id c.delete_refusal.ensures.valid) in
     let left = t.to.says.0 (ap Err is) in
@@ -43,5 +45,5 @@ returns-in-Err-clause-step g c state standing =
     (goes_on standing id t.to.cell state.writers (t.to.stands _ standing.pool) c.delete.ensures.goes_on.honest.1 c.delete.ensures.others (λ other apart. refl) (λ other apart. refl)
     (subst (λ o. MatchOption o (NotGrowing t.to.cell) (OpenWriter (g.D.PoolDisks.worlds c.delete.new.self.disks) (entry_at c.delete.new.self.map) id t.to.cell (state.writers id))) (sym none)
     (subst NotGrowing (sym left) (deleted_rests (state.cells id) free))))
-    (crash_takes t) (delete_fault fault) (λ trust known. says_delete trust (state.metas c.args.id) fault _ c.delete_refusal_of-in-Err.ensures) t.to.step
+    (crash_takes both) (delete_fault fault) (λ trust known. says_delete trust (state.metas c.args.id) fault _ c.delete_refusal_of-in-Err.ensures) t.to.step
     (λ e. (c.in-Err.ensures.failed (ap Err is), left)) (λ e w. absurd (delete_not_memory fault e)) refl refl (λ no. absurd (delete_gives_nothing fault no))

@@ -36,13 +36,14 @@ returns-in-Ok-clause-step g c state standing =
     let w = c.in-Some.writer in
     let at = writer_of_block _ _ _ (f w) (ap (option_map f) (sym c.in-Some.ensures.found)) (standing.writer id c.remove.ensures.valid) in
     let grows : state.cells w.id ≡ growing w.stamp None at.bytes (w.reserved - w.len) = ap state.cells at.of ∙ at.grows in
-    let t = at_block at.of (c.in-Ok.ensures.step state.cells at.bytes (w.reserved - w.len) (loose standing) grows) in
+    let both = at_block at.of (c.in-Ok.ensures.step state.cells at.bytes (w.reserved - w.len) (loose standing) grows) in
+    let t = both.0 in
     let seen = took f id _ _ c.in-Some.ensures.taken in
     carried_on t.to.cell
     (goes_on standing id t.to.cell state.writers (t.to.stands _ standing.pool) c.in-Ok.ensures.goes_on.honest.1 (λ other apart. c.in-Ok.ensures.others other (λ e. apart (e ∙ at.of))) seen.0 (λ other apart. refl)
     (subst (λ o. MatchOption o (NotGrowing t.to.cell) (OpenWriter (g.D.PoolDisks.worlds c.drop_write.new.self.disks) (entry_at c.drop_write.new.self.map) id t.to.cell (state.writers id))) (sym seen.1)
     (subst NotGrowing (sym (t.to.says.1 refl)) tt)))
-    (crash_takes t) done (λ trust known. refl) t.to.step (λ e. absurd cc) (λ e x. absurd cc) refl refl (λ no. absurd no)
+    (crash_takes both) done (λ trust known. refl) t.to.step (λ e. absurd cc) (λ e x. absurd cc) refl refl (λ no. absurd no)
 
 pub returns-in-Err-clause-step : goal.returns-in-Err-clause-step
 returns-in-Err-clause-step g c state standing =
@@ -51,10 +52,11 @@ returns-in-Err-clause-step g c state standing =
     let w = c.in-Some.writer in
     let at = writer_of_block _ _ _ (f w) (ap (option_map f) (sym c.in-Some.ensures.found)) (standing.writer id c.remove.ensures.valid) in
     let grows : state.cells w.id ≡ growing w.stamp None at.bytes (w.reserved - w.len) = ap state.cells at.of ∙ at.grows in
-    let t = at_block at.of (c.in-Err.ensures.step state.cells at.bytes (w.reserved - w.len) (loose standing) grows) in
+    let both = at_block at.of (c.in-Err.ensures.step state.cells at.bytes (w.reserved - w.len) (loose standing) grows) in
+    let t = both.0 in
     let seen = took f id _ _ c.in-Some.ensures.taken in
     carried_on t.to.cell
     (goes_on standing id t.to.cell state.writers (t.to.stands _ standing.pool) c.in-Err.ensures.goes_on.honest.1 (λ other apart. c.in-Err.ensures.others other (λ e. apart (e ∙ at.of))) seen.0 (λ other apart. refl)
     (subst (λ o. MatchOption o (NotGrowing t.to.cell) (OpenWriter (g.D.PoolDisks.worlds c.drop_write.new.self.disks) (entry_at c.drop_write.new.self.map) id t.to.cell (state.writers id))) (sym seen.1)
     (subst NotGrowing (sym (t.to.says.0 refl)) tt)))
-    (crash_takes t) failed (λ trust known. refl) t.to.step (λ e. c.in-Err.ensures.failed refl) (λ e x. absurd cc) refl refl (λ no. absurd no)
+    (crash_takes both) failed (λ trust known. refl) t.to.step (λ e. c.in-Err.ensures.failed refl) (λ e x. absurd cc) refl refl (λ no. absurd no)

@@ -65,13 +65,14 @@ returns-in-Ok-finish-clause-step g c state standing =
     ap state.cells key ∙ at.grows ∙ ap (λ s. growing s None at.bytes (w.reserved - w.len)) (sym c.in-Ok-seal.ensures.stamp) in
     let belongs = stands_sealed at.stands sealed.id sealed.stamp sealed.vol sealed.places.0 sealed.places.1 (sealed.sealed _ at.bytes at.stands.pushed) in
     let there = c.in-Ok-finish.ensures.step state.cells at.bytes (w.reserved - w.len) belongs (loose standing) grows in
-    let t = at_block key there in
+    let both = at_block key there in
+    let t = both.0 in
     let seen = took f id _ _ c.in-Ok.ensures.taken in
     carried_learning t.to.cell (with_meta state.metas pair.id pair.stamp (meta_of belongs))
     (goes_on standing id t.to.cell state.writers (t.to.stands _ standing.pool) c.finish.ensures.goes_on.honest.1 (λ other apart. c.finish.ensures.others other (λ e. apart (e ∙ key))) seen.0 (λ other apart. refl)
     (subst (λ o. MatchOption o (NotGrowing t.to.cell) (OpenWriter (g.D.PoolDisks.worlds c.finish.new.self.disks) (entry_at c.finish.new.self.map) id t.to.cell (state.writers id))) (sym seen.1)
     (subst NotGrowing (sym (t.to.says.1 refl)) tt)))
-    (crash_takes t) done (λ trust known. refl) t.to.step (λ e. absurd cc) (λ e x. absurd cc) refl
+    (crash_takes both) done (λ trust known. refl) t.to.step (λ e. absurd cc) (λ e x. absurd cc) refl
     (learns_final state.metas id pair.id pair.stamp at.bytes (meta_of belongs) key belongs.sealed.of_bytes.matches t.to.cell (t.to.says.1 refl)) (λ no. absurd no)
 
 pub returns-in-Err-finish-clause-step : goal.returns-in-Err-finish-clause-step
@@ -87,13 +88,14 @@ returns-in-Err-finish-clause-step g c state standing =
     ap state.cells key ∙ at.grows ∙ ap (λ s. growing s None at.bytes (w.reserved - w.len)) (sym c.in-Ok-seal.ensures.stamp) in
     let belongs = stands_sealed at.stands sealed.id sealed.stamp sealed.vol sealed.places.0 sealed.places.1 (sealed.sealed _ at.bytes at.stands.pushed) in
     let there = c.in-Err-finish.ensures.step state.cells at.bytes (w.reserved - w.len) belongs (loose standing) grows in
-    let t = at_block key there in
+    let both = at_block key there in
+    let t = both.0 in
     let seen = took f id _ _ c.in-Ok.ensures.taken in
     carried_learning t.to.cell (with_meta state.metas pair.id pair.stamp (meta_of belongs))
     (goes_on standing id t.to.cell state.writers (t.to.stands _ standing.pool) c.finish.ensures.goes_on.honest.1 (λ other apart. c.finish.ensures.others other (λ e. apart (e ∙ key))) seen.0 (λ other apart. refl)
     (subst (λ o. MatchOption o (NotGrowing t.to.cell) (OpenWriter (g.D.PoolDisks.worlds c.finish.new.self.disks) (entry_at c.finish.new.self.map) id t.to.cell (state.writers id))) (sym seen.1)
     (subst NotGrowing (sym (t.to.says.0 refl)) tt)))
-    (crash_takes t) failed (λ trust known. refl) t.to.step
+    (crash_takes both) failed (λ trust known. refl) t.to.step
     (λ e. subst (FailsBy (faulty_of g.D.Draft.Draft g.D.Reader.Reader) (mark_of g.D.PoolDisks c.args.self.now.pool.disks) (mark_of g.D.PoolDisks c.finish.new.self.disks) (state.writers id) (state.cells id) finish) (sym (t.to.says.0 refl)) (c.in-Err-finish.ensures.failed refl)) (λ e x. absurd cc) refl
     (learns_doubt state.metas id pair.id pair.stamp at.bytes (meta_of belongs) key belongs.sealed.of_bytes.matches t.to.cell (t.to.says.0 refl)) (λ no. absurd no)
 
@@ -126,13 +128,14 @@ returns-in-Err-Failed-default-clause-step g c state standing =
     let at = writer_of_block _ _ _ (f w) (ap (option_map f) c.in-Ok.ensures.ok) (standing.writer id c.take.ensures.valid) in
     let key : e.writer.id ≡ id = e.ensures.keeps.id ∙ at.of in
     let there = c.fail_write.ensures.step state.cells finish w.stamp (w.reserved - w.len) at.bytes (loose standing) (ap state.cells key ∙ at.grows) (failed_finish w.stamp (w.reserved - w.len) at.bytes) in
-    let t = at_block key there in
+    let both = at_block key there in
+    let t = both.0 in
     let seen = took f id _ _ c.in-Ok.ensures.taken in
     carried_on t.to.cell
     (goes_on standing id t.to.cell state.writers (t.to.stands _ standing.pool) (λ x. subst IsSome (ap g.D.PoolDisks.worlds c.fail_write.ensures.disks) x) (λ other apart. c.fail_write.ensures.others other (λ same. apart (same ∙ key))) seen.0 (λ other apart. refl)
     (subst (λ o. MatchOption o (NotGrowing t.to.cell) (OpenWriter (g.D.PoolDisks.worlds c.fail_write.new.self.disks) (entry_at c.fail_write.new.self.map) id t.to.cell (state.writers id))) (sym seen.1)
     (subst NotGrowing (sym t.to.says) tt)))
-    (crash_takes t) failed (λ trust known. refl) t.to.step
+    (crash_takes both) failed (λ trust known. refl) t.to.step
     (λ same. subst (FailsBy (faulty_of g.D.Draft.Draft g.D.Reader.Reader) (mark_of g.D.PoolDisks c.args.self.now.pool.disks) (mark_of g.D.PoolDisks c.fail_write.new.self.disks) (state.writers id) (state.cells id) finish) (sym t.to.says)
     (inl (faulty_writer g.D.Draft.Draft.place g.D.Draft.Draft.faults (f w) (state.writers id) _ _ _ _ _ _ at.stands.block at.stands.meta at.block_given at.meta_given (e.ensures.failed e.field-0-0-is).1)))
     (λ bad x. absurd cc) refl (learns_waiting state.metas id t.to.cell t.to.says) (λ no. absurd no)

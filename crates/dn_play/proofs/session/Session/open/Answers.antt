@@ -35,14 +35,15 @@ returns-in-Err-start_write-clause-step g c state standing =
     let fault = c.in-Err-start_write.fault in
     let f = writer_of g.D.Draft.Draft.place g.D.Draft.Draft.bytes in
     let is_absent = c.write_refusal.ensures.absent state.cells (loose standing) c.in_default.is in
-    let t = c.in-Err-start_write.ensures.step state.cells (loose standing) in
+    let both = c.in-Err-start_write.ensures.step state.cells (loose standing) in
+    let t = both.0 in
     let none = none_open _ _ c.args.id (state.cells c.args.id) (state.writers c.args.id) _ (subst NotGrowing (sym is_absent) tt) (standing.writer c.args.id c.write_refusal.ensures.valid) in
     let rests : NotGrowing t.to.cell = elim (t.to.says.2 refl) [ inl same ↦ subst NotGrowing (sym (same ∙ is_absent)) tt | inr waits ↦ subst NotGrowing (sym waits) tt ] in
     carried_on t.to.cell
     (goes_on standing c.args.id t.to.cell state.writers (t.to.stands _ standing.pool) c.in-Err-start_write.ensures.goes_on.honest.1 c.in-Err-start_write.ensures.others
     (λ other apart. seen_same f _ _ c.make_room.ensures.same other) (λ other apart. refl)
     (subst (λ o. MatchOption o (NotGrowing t.to.cell) (OpenWriter (g.D.PoolDisks.worlds c.start_write.new.self.disks) (Rattle.pool_state.specs.Books.entry_at c.start_write.new.self.map) c.args.id t.to.cell (state.writers c.args.id))) (sym (seen_same f _ _ c.make_room.ensures.same c.args.id ∙ none)) rests))
-    (crash_takes t) (start_fault fault) (λ trust known. says_fault trust (state.metas c.args.id) fault _ c.refusal_of-in-Err-start_write.ensures) t.to.step
+    (crash_takes both) (start_fault fault) (λ trust known. says_fault trust (state.metas c.args.id) fault _ c.refusal_of-in-Err-start_write.ensures) t.to.step
     (λ e. (c.in-Err-start_write.ensures.failed (ap Err (is_failed fault e)), t.to.says.0 (ap Err (is_failed fault e))))
     (λ e w. t.to.says.1 (ap Err (is_memory fault e)) w) (begins_nothing c.args.stamp c.args.need fault) refl (λ no. absurd (start_gives_nothing fault no))
 
@@ -51,7 +52,8 @@ returns-clause-step g c state standing =
     let id = c.args.id in
     let w = c.in-Ok-start_write.writer in
     let f = writer_of g.D.Draft.Draft.place g.D.Draft.Draft.bytes in
-    let t = c.in-Ok-start_write.ensures.step state.cells (loose standing) in
+    let both = c.in-Ok-start_write.ensures.step state.cells (loose standing) in
+    let t = both.0 in
     let what = c.in-Ok-start_write.ensures.what in
     let belongs = c.in-Ok-start_write.ensures.writer in
     let first = g.D.PoolDisks.next_number c.args.self.now.pool.disks in
@@ -74,4 +76,4 @@ returns-clause-step g c state standing =
     seen.0 (λ other apart. put_other other id new_numbers (state.writers other) apart)
     (subst (λ o. MatchOption o (NotGrowing t.to.cell) (OpenWriter (g.D.PoolDisks.worlds c.start_write.new.self.disks) (Rattle.pool_state.specs.Books.entry_at c.start_write.new.self.map) id t.to.cell (numbers id))) (sym seen.1)
     (subst (λ n. OpenWriter (g.D.PoolDisks.worlds c.start_write.new.self.disks) (Rattle.pool_state.specs.Books.entry_at c.start_write.new.self.map) id t.to.cell n (f w)) (sym (put_here id id new_numbers (state.writers id) refl)) opened)))
-    (crash_takes t) done (λ trust known. refl) t.to.step (λ e. absurd cc) (λ e x. absurd cc) (λ other. refl) refl (λ no. absurd no)
+    (crash_takes both) done (λ trust known. refl) t.to.step (λ e. absurd cc) (λ e x. absurd cc) (λ other. refl) refl (λ no. absurd no)

@@ -101,13 +101,14 @@ returns-in-Err-Failed-clause-step g c state standing =
     let key : new.id ≡ id = e.ensures.keeps.id ∙ at.of in
     let faulty = e.ensures.failed (ap Err e.field-0-is) in
     let there = c.fail_write.ensures.step state.cells (push piece) some.0.stamp left was.bytes (loose standing) (ap state.cells key ∙ cell) (failed_push some.0.stamp left was.bytes piece (omega arith)) in
-    let t = at_block key there in
+    let both = at_block key there in
+    let t = both.0 in
     let seen = took f id _ _ c.in-Ok.ensures.taken in
     carried_on t.to.cell
     (goes_on standing id t.to.cell state.writers (t.to.stands _ standing.pool) (λ x. subst IsSome (ap g.D.PoolDisks.worlds c.fail_write.ensures.disks) x) (λ other apart. c.fail_write.ensures.others other (λ same. apart (same ∙ key))) seen.0 (λ other apart. refl)
     (subst (λ o. MatchOption o (NotGrowing t.to.cell) (OpenWriter (g.D.PoolDisks.worlds c.fail_write.new.self.disks) (entry_at c.fail_write.new.self.map) id t.to.cell (state.writers id))) (sym seen.1)
     (subst NotGrowing (sym t.to.says) tt)))
-    (crash_takes t) failed (λ trust known. refl) t.to.step
+    (crash_takes both) failed (λ trust known. refl) t.to.step
     (λ same. inl (faulty_block g.D.Draft.Draft.place g.D.Draft.Draft.faults (state.writers id) new.block _ _ _ (e.ensures.keeps.block ∙ at.stands.block) at.block_given (rose_above _ _ faulty.1)))
     (λ bad x. absurd (failed_not_memory bad)) refl refl (λ no. absurd no)
 

@@ -6,16 +6,16 @@ use Rattle.pool_state.proofs.pool_record.Pool.clean_found.Goals as goal
 pub returns-in_err-clean_one-clause-quiet : goal.returns-in_err-clean_one-clause-quiet
 returns-in_err-clean_one-clause-quiet g c cells stands =
     let was = c.loop.invariant.quiet cells stands in
-    both_quiet was (c.clean_one.ensures.quiet cells (was.stands _ stands))
+    both_quiet was (c.clean_one.ensures.quiet cells (was.0.stands _ stands))
 
 pub loop-preserved : goal.loop-preserved
 loop-preserved g c = record {
   stands = let some = c.requires.stands in
       let was = c.loop.invariant.quiet some.0 some.1 in
-      (some.0, (c.clean_one.ensures.quiet some.0 (was.stands _ some.1)).stands _ (was.stands _ some.1));
+      (some.0, (c.clean_one.ensures.quiet some.0 (was.0.stands _ some.1)).0.stands _ (was.0.stands _ some.1));
   quiet = λ cells stands.
       let was = c.loop.invariant.quiet cells stands in
-      both_quiet was (c.clean_one.ensures.quiet cells (was.stands _ stands));
+      both_quiet was (c.clean_one.ensures.quiet cells (was.0.stands _ stands));
   fewer = omega (arith, c.loop.invariant.fewer, c.in_ok-clean_one.ensures.fewer);
   entries = λ other. c.clean_one.ensures.entries other ∙ c.loop.invariant.entries other;
   goes_on = went_then _ _ _ _ c.loop.invariant.goes_on c.clean_one.ensures.goes_on;

@@ -13,7 +13,7 @@ returns-in-Ok-clause-step g c cells stands =
     let e = with_state (Waiting false false) c.args.entry.now in
     let valid = c.remove.ensures.valid in
     let quiet = c.clean.ensures.quiet cells stands in
-    let now = quiet.stands _ stands in
+    let now = quiet.0.stands _ stands in
     let waits = waits_here now c.args.id valid e c.in-Ok.ensures.done refl c.in-Ok.ensures.none in
     quiet_deletion c.args.id quiet (subst (λ cell. Step unlimited cell delete done absent) (sym waits) (refl, refl)) (λ e. absurd cc, λ e. refl)
     (λ known old. waiting_goes old c.args.id valid e c.in-Ok.ensures.done refl c.in-Ok.ensures.none _ _ (same_found _ _ c.remove.ensures.found) c.remove.ensures.removed)

@@ -1,4 +1,5 @@
-use Rattle.std.proofs.Common.{◌≡◌, ◌≤◌, true, false, inr, refl, sym, ◌∙◌, ap, subst}
+use Rattle.std.proofs.Common.{◌≡◌, ◌≤◌, true, false, inr, refl, sym, ◌∙◌, ap, subst, arith}
+use Rattle.disk_model.proofs.GoingOn.{went_call, went_then}
 use Rattle.volume_layout.proofs.Reading.{is_stamp-IsStamp}
 use Rattle.map_model.specs.Cells.{absent, waiting}
 use Rattle.volume_layout.specs.declared.block_file.BlockFile.TheVariants.{WritingBlock, WritingMeta}
@@ -85,3 +86,13 @@ returns-clause-step g c cells bytes left stands grows =
     )) stands
 
 -- timed imp
+
+pub returns-in-Err-remove-clause-goes_on : goal.returns-in-Err-remove-clause-goes_on
+returns-in-Err-remove-clause-goes_on g c = went_then g.D.PoolDisks _ _ _
+    (went_call g.D.PoolDisks (g.met.D.PoolDisks.counts_now _) c.in-Ok.ensures.time c.in-Ok.ensures.worlds.honest c.in-Ok.ensures.cause.later c.in-Ok.ensures.absences (omega (arith, c.in-Ok.ensures.numbers)) c.in-Ok.ensures.volumes)
+    (went_call g.D.PoolDisks (g.met.D.PoolDisks.counts_now _) c.in-Err-remove.ensures.time c.in-Err-remove.ensures.worlds.honest c.in-Err-remove.ensures.cause.later c.in-Err-remove.ensures.absences (omega (arith, c.in-Err-remove.ensures.numbers)) c.in-Err-remove.ensures.volumes)
+
+pub returns-clause-goes_on : goal.returns-clause-goes_on
+returns-clause-goes_on g c = went_then g.D.PoolDisks _ _ _
+    (went_call g.D.PoolDisks (g.met.D.PoolDisks.counts_now _) c.in-Ok.ensures.time c.in-Ok.ensures.worlds.honest c.in-Ok.ensures.cause.later c.in-Ok.ensures.absences (omega (arith, c.in-Ok.ensures.numbers)) c.in-Ok.ensures.volumes)
+    (went_call g.D.PoolDisks (g.met.D.PoolDisks.counts_now _) c.in-Ok-remove.ensures.time c.in-Ok-remove.ensures.worlds.honest c.in-Ok-remove.ensures.cause.later c.in-Ok-remove.ensures.absences (omega (arith, c.in-Ok-remove.ensures.numbers)) c.in-Ok-remove.ensures.volumes)

@@ -1,4 +1,5 @@
-use Rattle.std.proofs.Common.{◌≡◌, Some, None, false, inr, refl, sym, ◌∙◌, ap, subst}
+use Rattle.std.proofs.Common.{◌≡◌, Some, None, false, inr, refl, sym, ◌∙◌, ap, subst, arith}
+use Rattle.disk_model.proofs.GoingOn.{went_call, went_then}
 use Rattle.volume_layout.proofs.Reading.{is_stamp-IsStamp}
 use Rattle.map_model.specs.Cells.{Replica, final, unsure}
 use Rattle.map_model.specs.Steps.{Step, finish, failed, done}
@@ -104,3 +105,13 @@ returns-clause-step g c cells bytes left belongs stands grows =
     )) stands
 
 -- timed imp
+
+pub returns-in-Err-publish-clause-goes_on : goal.returns-in-Err-publish-clause-goes_on
+returns-in-Err-publish-clause-goes_on g c = went_then g.D.PoolDisks _ _ _
+    (went_call g.D.PoolDisks (g.met.D.PoolDisks.counts_now _) c.in-Ok.ensures.time c.in-Ok.ensures.worlds.honest c.in-Ok.ensures.cause.later c.in-Ok.ensures.absences (omega (arith, c.in-Ok.ensures.numbers)) c.in-Ok.ensures.volumes)
+    (went_call g.D.PoolDisks (g.met.D.PoolDisks.counts_now _) c.in-Err-publish.ensures.time c.in-Err-publish.ensures.worlds.honest c.in-Err-publish.ensures.cause.later c.in-Err-publish.ensures.absences (omega (arith, c.in-Err-publish.ensures.numbers)) c.in-Err-publish.ensures.volumes)
+
+pub returns-clause-goes_on : goal.returns-clause-goes_on
+returns-clause-goes_on g c = went_then g.D.PoolDisks _ _ _
+    (went_call g.D.PoolDisks (g.met.D.PoolDisks.counts_now _) c.in-Ok.ensures.time c.in-Ok.ensures.worlds.honest c.in-Ok.ensures.cause.later c.in-Ok.ensures.absences (omega (arith, c.in-Ok.ensures.numbers)) c.in-Ok.ensures.volumes)
+    (went_call g.D.PoolDisks (g.met.D.PoolDisks.counts_now _) c.in-Ok-publish.ensures.time c.in-Ok-publish.ensures.worlds.honest c.in-Ok-publish.ensures.cause.later c.in-Ok-publish.ensures.absences (omega (arith, c.in-Ok-publish.ensures.numbers)) c.in-Ok-publish.ensures.volumes)

@@ -1,6 +1,7 @@
 use Rattle.std.proofs.Common.{false, ◌≡◌, ℕ, ◌==◌, if◌then◌else◌, [], true, Some, None, Err, refl, sym, ◌∙◌, ap, subst, arith, inl, inr}
 use Rattle.disk_model.specs.Worlds.{DraftPlace}
 use Rattle.disk_model.specs.Told.{NoDraftAt}
+use Rattle.disk_model.proofs.GoingOn.{went_call, went_then}
 use Rattle.volume_layout.proofs.Reading.{is_stamp-IsStamp}
 use Rattle.map_model.specs.Cells.{Cell, absent, waiting, growing}
 use Rattle.volume_layout.specs.declared.block_file.BlockFile.TheVariants.{WritingBlock, WritingMeta}
@@ -174,3 +175,22 @@ returns-clause-step g c cells stands =
     )) stands
 
 -- timed imp
+
+pub returns-in-Err-Memory-clause-goes_on : goal.returns-in-Err-Memory-clause-goes_on
+returns-in-Err-Memory-clause-goes_on g c =
+    went_call g.D.PoolDisks (g.met.D.PoolDisks.counts_now _) c.in-Err-Memory.ensures.time c.in-Err-Memory.ensures.worlds.honest c.in-Err-Memory.ensures.cause.later c.in-Err-Memory.ensures.absences c.in-Err-Memory.ensures.numbers.later c.in-Err-Memory.ensures.volumes
+
+pub returns-in-Err-Failed-create-clause-goes_on : goal.returns-in-Err-Failed-create-clause-goes_on
+returns-in-Err-Failed-create-clause-goes_on g c = went_then g.D.PoolDisks _ _ _
+    (went_call g.D.PoolDisks (g.met.D.PoolDisks.counts_now _) c.in-Ok-create.ensures.time c.in-Ok-create.ensures.worlds.honest c.in-Ok-create.ensures.cause.later c.in-Ok-create.ensures.absences c.in-Ok-create.ensures.numbers.later c.in-Ok-create.ensures.volumes)
+    (went_call g.D.PoolDisks (g.met.D.PoolDisks.counts_now _) c.in-Err-Failed-create.ensures.time c.in-Err-Failed-create.ensures.worlds.honest c.in-Err-Failed-create.ensures.cause.later c.in-Err-Failed-create.ensures.absences c.in-Err-Failed-create.ensures.numbers.later c.in-Err-Failed-create.ensures.volumes)
+
+pub returns-in-Err-Memory-create-clause-goes_on : goal.returns-in-Err-Memory-create-clause-goes_on
+returns-in-Err-Memory-create-clause-goes_on g c = went_then g.D.PoolDisks _ _ _
+    (went_call g.D.PoolDisks (g.met.D.PoolDisks.counts_now _) c.in-Ok-create.ensures.time c.in-Ok-create.ensures.worlds.honest c.in-Ok-create.ensures.cause.later c.in-Ok-create.ensures.absences c.in-Ok-create.ensures.numbers.later c.in-Ok-create.ensures.volumes)
+    (went_call g.D.PoolDisks (g.met.D.PoolDisks.counts_now _) c.in-Err-Memory-create.ensures.time c.in-Err-Memory-create.ensures.worlds.honest c.in-Err-Memory-create.ensures.cause.later c.in-Err-Memory-create.ensures.absences c.in-Err-Memory-create.ensures.numbers.later c.in-Err-Memory-create.ensures.volumes)
+
+pub returns-clause-goes_on : goal.returns-clause-goes_on
+returns-clause-goes_on g c = went_then g.D.PoolDisks _ _ _
+    (went_call g.D.PoolDisks (g.met.D.PoolDisks.counts_now _) c.in-Ok-create.ensures.time c.in-Ok-create.ensures.worlds.honest c.in-Ok-create.ensures.cause.later c.in-Ok-create.ensures.absences c.in-Ok-create.ensures.numbers.later c.in-Ok-create.ensures.volumes)
+    (went_call g.D.PoolDisks (g.met.D.PoolDisks.counts_now _) c.in-Ok-create-2.ensures.time c.in-Ok-create-2.ensures.worlds.honest c.in-Ok-create-2.ensures.cause.later c.in-Ok-create-2.ensures.absences c.in-Ok-create-2.ensures.numbers.later c.in-Ok-create-2.ensures.volumes)
