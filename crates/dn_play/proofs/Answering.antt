@@ -13,11 +13,11 @@ use Rattle.script_lang.specs.declared.reply.Reply.{Reply}
 use Rattle.script_lang.specs.Reply.{reply_line}
 use Rattle.script_lang.specs.Script.{line_of}
 use Rattle.run_end.specs.declared.ending.Ending.TheVariants.{SinkFault, NoMemory, Outside, Later}
-use Rattle.dn_play.specs.State.{RunState, Turn, last_state}
-use Rattle.dn_play.specs.Commands.{Trust}
-use Rattle.dn_play.specs.Lines.{Follows}
-use Rattle.dn_play.specs.Standing.{IsKnown, is_on_block, LineCarried, LeavesAllowed, AnyCells}
-use Rattle.dn_play.specs.Script.{Script, is_blank, is_carried, script_after, goes_on, prepend}
+use Rattle.run_model.specs.State.{RunState, Turn, last_state}
+use Rattle.run_model.specs.Commands.{Trust}
+use Rattle.run_model.specs.Lines.{Follows}
+use Rattle.run_model.specs.Carrying.{IsKnown, is_on_block, LineCarried, LeavesAllowed, AnyCells}
+use Rattle.run_model.specs.Script.{Script, is_blank, is_carried, script_after, goes_on, prepend}
 use Rattle.disk_model.specs.Files.{Files}
 use Rattle.disk_model.specs.Told.{CanLeave}
 use Rattle.disk_model.specs.Causes.{Rose}
@@ -28,7 +28,7 @@ use Rattle.pool_open.specs.declared.opening.ReopenFault.{ReopenFault}
 use Rattle.pool_open.specs.declared.opening.ReopenFault.TheVariants.{Failed, Memory as NoRoom, Later as TwoMetas}
 use Rattle.run_end.specs.declared.ending.Ending.{Ending}
 use Rattle.map_model.specs.Cells.{Cells}
-use Rattle.dn_play.specs.Images.{AllowedFrom, StaysCrashSafe, LinesCrashSafe}
+use Rattle.run_model.specs.Images.{AllowedFrom, StaysCrashSafe, LinesCrashSafe}
 use Rattle.dn_play.specs.Answer.{Answered, Unanswered, FirstOfLine, SaysLater, reopen_ending}
 
 -- a line that is no blank

@@ -17,12 +17,12 @@ use Rattle.map_model.proofs.Soundness.{stands_is_sound}
 use Rattle.pool_state.specs.declared.entry.Entry.{Entry}
 use Rattle.pool_state.specs.Books.{block_books}
 use Rattle.pool_state.specs.Stands.{PoolStands}
-use Rattle.dn_play.specs.State.{RunState, Turn, last_state, last_mark}
+use Rattle.run_model.specs.State.{RunState, Turn, last_state, last_mark}
 use Rattle.pool_state.proofs.Whole.{leaves_whole}
 use Rattle.map_model.specs.Copies.{OneWhole}
-use Rattle.dn_play.specs.Commands.{any_disks}
-use Rattle.dn_play.specs.Lines.{Follows}
-use Rattle.dn_play.specs.Images.{AllowedByOne, AllowedByEach, LinesCrashSafe}
+use Rattle.run_model.specs.Commands.{any_disks}
+use Rattle.run_model.specs.Lines.{Follows}
+use Rattle.run_model.specs.Images.{AllowedByOne, AllowedByEach, LinesCrashSafe}
 
 -- what the disks can leave now, the cells of the pool allow
 pub leaves_allowed : {told : Option (List World)} {volumes : ℕ} {entries : ℕ → Option Entry} {found : ℕ → List Leftover} {known : Knowledge} {cells : Cells} → PoolStands told volumes entries found known cells →

@@ -11,8 +11,8 @@ use Rattle.run_end.specs.declared.ending.Ending.TheVariants.{Usage, NoMemory, No
 use Rattle.run_end.specs.Ending.{status_of}
 use Rattle.run_end.specs.Closing.{Declines}
 use Rattle.run_end.proofs.LastLine.{closed_for_memory}
-use Rattle.dn_play.specs.Session.{status_at}
-use Rattle.dn_play.specs.Script.{script_of}
+use Rattle.dn_play.specs.Endings.{status_at}
+use Rattle.run_model.specs.Script.{script_of}
 use Rattle.dn_play.specs.Outside.{IsJudged}
 use Rattle.dn_play.specs.Play.{Runs}
 use Rattle.line_io.proofs.Appending.{appends_nothing}

@@ -9,16 +9,16 @@ use Rattle.run_end.specs.declared.ending.Ending.{Ending}
 use Rattle.run_end.specs.declared.ending.Ending.TheVariants.{Complete, Usage, SourceFault, SinkFault, NoMemory, Outside, OpenFault, Limit, Later, NotCarriedOut}
 use Rattle.run_end.specs.Ending.{status_of}
 use Rattle.run_end.specs.Closing.{Ends, Closed}
-use Rattle.dn_play.specs.State.{RunState, Turn, last_mark, turn_lines, turn_replies}
-use Rattle.dn_play.specs.Commands.{any_disks}
-use Rattle.dn_play.specs.Lines.{Follows}
-use Rattle.dn_play.specs.Script.{script_of}
-use Rattle.dn_play.specs.Session.{status_at, Shows, Reads, FirstCommands, text_of}
+use Rattle.run_model.specs.State.{RunState, Turn, last_mark, turn_lines, turn_replies}
+use Rattle.run_model.specs.Commands.{any_disks}
+use Rattle.run_model.specs.Lines.{Follows}
+use Rattle.run_model.specs.Script.{script_of}
+use Rattle.dn_play.specs.Endings.{status_at, Shows, Reads, FirstCommands, text_of}
 use Rattle.dn_play.specs.Answer.{IsOfLines, NextReopens, EndsAt}
 use Rattle.disk_model.specs.Files.{Files}
 use Rattle.disk_model.specs.Marks.{Mark}
 use Rattle.dn_play.specs.Play.{Course, Goes, RunsPool, Runs}
-use Rattle.dn_play.proofs.Progress.{rose_from}
+use Rattle.run_session.proofs.Stepping.{rose_from}
 
 -- the commands before an opening again
 before_reopen : (bytes : List ℕ) (commands : List Line) → FirstCommands bytes (commands ++ Reopen ∷ []) → FirstCommands bytes commands

@@ -1,8 +1,4 @@
-pub mod Stepping
-pub mod Stepped
-pub mod Composing
 pub mod Crashes
-pub mod FoundAgain
 pub mod Answering
 pub mod Progress
 pub mod Opening
@@ -11,4 +7,3 @@ pub mod OneDisk
 pub mod Judging
 mod PutFiles
 mod FreshImages
-pub mod Ended

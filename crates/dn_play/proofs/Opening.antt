@@ -1,5 +1,5 @@
 -- What a run is whose pool is opened, or isn't.
-use Rattle.std.proofs.Common.{◌≡◌, inl, inr, ℕ, true, false, List, [], ◌∷◌, Option, None, Some, MatchOption, Contains, refl, sym, ◌∙◌, subst, arith}
+use Rattle.std.proofs.Common.{◌≡◌, inl, inr, ℕ, true, false, List, [], Option, None, Some, MatchOption, Contains, refl, sym, ◌∙◌, subst, arith}
 use mathlib.Core.Path.{fun_ext}
 use Rattle.std.specs.Prelude.{IsSome}
 use Rattle.std.proofs.lemmas.Option.{same_Some}
@@ -18,51 +18,22 @@ use Rattle.map_model.specs.Cells.{Replica, Cell, Cells, absent, final, waiting}
 use Rattle.map_model.specs.Copies.{BlockFiles, block_files}
 use Rattle.map_model.specs.Allows.{Allows, AllowsImage}
 use Rattle.map_model.specs.Openings.{LeavesBlockFile, WaitsExactly, MakesCells, shown_files, ReadsAlike}
-use Rattle.map_model.specs.Sound.{Metas, matching, exactly, Fits, HasSoundCopies, IsSound}
+use Rattle.map_model.specs.Sound.{matching, exactly, Fits, HasSoundCopies, IsSound}
 use Rattle.map_model.specs.Stands.{Leftover}
 use Rattle.pool_state.specs.declared.entry.Entry.{Entry}
 use Rattle.pool_state.specs.Stands.{PoolStands}
-use Rattle.pair_draft.specs.Writers.{Writer}
 use Rattle.pool_open.specs.declared.opening.OpenFault.{OpenFault}
 use Rattle.pool_open.specs.Outcome.{HoldsImage, HasTwoMetas, HasSoundFiles, ReadsAsOne, IsOpened, Opens, fault_disks}
 use Rattle.run_end.specs.declared.ending.Ending.{Ending}
 use Rattle.run_end.specs.declared.ending.Ending.TheVariants.{OpenFault as OpenFailed, NotCarriedOut}
 use Rattle.run_end.specs.Ending.{status_of}
 use Rattle.run_end.specs.Closing.{Writes}
-use Rattle.dn_play.specs.State.{Numbers, RunState}
-use Rattle.dn_play.specs.Standing.{Standing, OpenWriter, NotGrowing, LeavesAllowed}
+use Rattle.run_model.specs.Carrying.{LeavesAllowed}
 use Rattle.dn_play.specs.Answer.{Played, IsOfLines}
 use Rattle.dn_play.specs.Play.{Course, IsBeforeOpened, ReadsAlikeUpTo, RunsPool}
 use Rattle.dn_play.proofs.Crashes.{counts_on, first_allowed, each_allowed, each_whole}
+use Rattle.run_session.proofs.Opened.{first_of}
 use Rattle.dn_play.proofs.Progress.{known_on}
-
--- the state that an opening leaves
-abbrev pub opened_of : Cells → Metas → (ℕ → Numbers) → RunState
-opened_of cells metas numbers = record { cells = cells; metas = metas; writers = numbers }
-
--- the state that a run begins with
-abbrev pub first_of : Cells → Metas → RunState
-first_of cells metas = opened_of cells metas (λ id. record { first = 0; last = 0 })
-
-not_growing : (cell : Cell) → IsOpened cell → NotGrowing cell
-not_growing cell (inl is) = subst NotGrowing (sym is) tt
-not_growing cell (inr (inl is)) = subst NotGrowing (sym is.1) tt
-not_growing cell (inr (inr is)) = subst NotGrowing (sym is) tt
-
--- a session without writers stands for the cells that the opening made, of whose meta files so much is known
-pub stands_opened : {before told : Option (List World)} {volumes : ℕ} {entries : ℕ → Option Entry} {found : ℕ → List Leftover} {past since : ℕ → Files → Type 0} (writers : ℕ → Option Writer) →
-    (opens : Opens before told volumes entries found past since) → {metas : Metas} → PoolStands told volumes entries found (exactly metas) opens.cells → (numbers : ℕ → Numbers) → ((id : ℕ) → writers id ≡ None) →
-    Standing told volumes entries found writers (opened_of opens.cells metas numbers)
-stands_opened {before} {told} {volumes} {entries} {found} writers opens pool numbers none = record {
-  pool = pool;
-  writer = λ id valid. subst (λ w. MatchOption w (NotGrowing (opens.cells id)) (OpenWriter told entries id (opens.cells id) (numbers id))) (sym (none id))
-      (not_growing (opens.cells id) (opens.opened id valid));
-}
-
--- and so for those that a run begins with
-pub stands_first : {before told : Option (List World)} {volumes : ℕ} {entries : ℕ → Option Entry} {found : ℕ → List Leftover} {past since : ℕ → Files → Type 0} (writers : ℕ → Option Writer) →
-    (opens : Opens before told volumes entries found past since) → ((id : ℕ) → writers id ≡ None) → Standing told volumes entries found writers (first_of opens.cells opens.metas)
-stands_first writers opens none = stands_opened writers opens opens.stands (λ id. record { first = 0; last = 0 }) none
 
 -- the only world of a fresh disk
 abbrev fresh : Files → World

@@ -18,19 +18,19 @@ use Rattle.run_end.specs.declared.ending.Ending.TheVariants.{Complete, SourceFau
 use Rattle.run_end.specs.Ending.{status_of, ending_at}
 use Rattle.run_end.specs.Closing.{Writes}
 use Rattle.run_end.proofs.LastLine.{writes_then}
-use Rattle.dn_play.specs.State.{RunState, Turn, turn_lines, turn_replies, last_state, last_mark}
-use Rattle.dn_play.specs.Commands.{Trust, any_disks, telling_disks, sound_disks}
-use Rattle.dn_play.specs.Lines.{Follows}
-use Rattle.dn_play.specs.Standing.{IsKnown}
-use Rattle.dn_play.specs.Script.{Script, AtEnd, AtOutside, AtLimit, AtLater, stops, script_after, script_from, script_of, prepend, is_blank, is_carried, goes_on}
-use Rattle.dn_play.specs.Session.{Shows, text_of, Reads, FirstCommands, AllCommands}
+use Rattle.run_model.specs.State.{RunState, Turn, turn_lines, turn_replies, last_state, last_mark}
+use Rattle.run_model.specs.Commands.{Trust, any_disks, telling_disks, sound_disks}
+use Rattle.run_model.specs.Lines.{Follows}
+use Rattle.run_model.specs.Carrying.{IsKnown}
+use Rattle.run_model.specs.Script.{Script, AtEnd, AtOutside, AtLimit, AtLater, stops, script_after, script_from, script_of, prepend, is_blank, is_carried, goes_on}
+use Rattle.dn_play.specs.Endings.{Shows, text_of, Reads, FirstCommands, AllCommands}
 use Rattle.dn_play.specs.Answer.{Answered, Unanswered, FirstOfLine, SaysUpTo, SaysReopen, NextReopens, EndsAt, Played, IsOfLines}
 use Rattle.disk_model.specs.Files.{Files}
 use Rattle.disk_model.specs.Marks.{Mark}
 use Rattle.map_model.specs.Cells.{Cells}
-use Rattle.dn_play.specs.Images.{AllowedFrom, LinesCrashSafe}
+use Rattle.run_model.specs.Images.{AllowedFrom, LinesCrashSafe}
 use Rattle.dn_play.proofs.Crashes.{crash_on}
-use Rattle.dn_play.specs.Standing.{AnyCells}
+use Rattle.run_model.specs.Carrying.{AnyCells}
 use Rattle.dn_play.proofs.Answering.{no_lines, lines_less}
 
 -- the lines so far, what is written, and that these lines and the script of what is unread are the whole script
@@ -189,9 +189,6 @@ answered_complete number text lines ending says e = subst (SaysUpTo number text 
 
 pub answered_source : (number : ℕ) (text : List ℕ) (lines : List Line) (ending : Ending) → SaysUpTo number text lines ending → ending ≡ SourceFault → ⊥
 answered_source number text lines ending says e = subst (SaysUpTo number text lines) e says
-
-pub rose_from : (first before now : ℕ) → first ≤ before → Rose before now → Rose first now
-rose_from first before now h r = omega arith
 
 pub ends_lines : (fault : ReadFault) (line : ℕ) (ending : Ending) → ending ≡ ending_at fault line → IsOfLines ending
 ends_lines Source line ending e = subst IsOfLines (sym e) tt

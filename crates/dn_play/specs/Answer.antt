@@ -1,6 +1,10 @@
 -- What the answer to one line does, and what the lines of a session do.
 use Rattle.std.specs.Prelude.{◌≡◌, ◌⊎◌, ℕ, false, ◌++◌, List, [], ◌∷◌, Option, Ok, Err, IfSome, ⊤}
 use Rattle.std.specs.Io.KnownBytes.{Appends}
+use Rattle.disk_model.specs.declared.disks.PoolDisks.{Ghosts}
+use Rattle.disk_model.specs.declared.disks.Draft as drafts
+use Rattle.disk_model.specs.declared.disks.SealedDraft as sealed
+use Rattle.disk_model.specs.declared.disks.Reader as readers
 use Rattle.disk_model.specs.Worlds.{World}
 use Rattle.disk_model.specs.Causes.{Rose}
 use Rattle.pool_open.specs.declared.opening.ReopenFault.{ReopenFault}
@@ -14,16 +18,18 @@ use Rattle.run_end.specs.declared.ending.Ending.{Ending}
 use Rattle.run_end.specs.declared.ending.Ending.TheVariants.{Usage, SinkFault, NoMemory, Outside, OpenFault, Later, NotCarriedOut}
 use Rattle.run_end.specs.Ending.{status_of}
 use Rattle.run_end.specs.Closing.{Writes}
-use Rattle.dn_play.specs.State.{RunState, Turn, turn_lines, turn_replies, last_state, last_mark}
-use Rattle.dn_play.specs.Commands.{Trust}
-use Rattle.dn_play.specs.Lines.{Follows}
-use Rattle.dn_play.specs.Images.{LinesCrashSafe}
+use Rattle.run_model.specs.State.{RunState, Turn, turn_lines, turn_replies, last_state, last_mark}
+use Rattle.run_model.specs.Commands.{Trust}
+use Rattle.run_model.specs.Lines.{Follows}
+use Rattle.run_model.specs.Images.{LinesCrashSafe}
 use Rattle.disk_model.specs.Files.{Files}
-use Rattle.disk_model.specs.Marks.{Mark, IsLater}
+use Rattle.disk_model.specs.Marks.{Mark, IsLater, faulty_of, mark_of}
 use Rattle.map_model.specs.Cells.{Cells}
-use Rattle.dn_play.specs.Standing.{IsKnown}
-use Rattle.dn_play.specs.Script.{Script, is_blank, is_carried, script_after, prepend}
-use Rattle.dn_play.specs.Session.{Reads, FirstCommands, Shows, text_of}
+use Rattle.run_model.specs.Carrying.{IsKnown, LeavesAllowed, AnyCells}
+use Rattle.run_session.specs.declared.session.Session.{Session}
+use Rattle.run_session.specs.Standing.{SoundFor, SessionStands}
+use Rattle.run_model.specs.Script.{Script, is_blank, is_carried, script_after, prepend}
+use Rattle.dn_play.specs.Endings.{Reads, FirstCommands, Shows, text_of}
 
 -- the line's command, if it has one, was carried out, and its reply written
 pub record Answered (Faulty : ℕ → ℕ → Type 0) (told : Option (List World)) (state : RunState) (before after : Mark) (taken taken' : Option (List ℕ)) (text : List ℕ)
@@ -106,3 +112,22 @@ pub record Played (Faulty : ℕ → ℕ → Type 0) (told : Option (List World))
 abbrev pub IsOfLines : Ending → Type 0
 IsOfLines Usage = ⊥
 IsOfLines ending = ⊤
+
+module _ {D S T R : Type 0} {g : Ghosts D S T R} {d : drafts.Ghosts T S} {s : sealed.Ghosts S} {r : readers.Ghosts R} where
+  -- a session answered a line of this text, and the sink took the reply
+  abbrev pub SessionAnswers : RunState → (text : List ℕ) → (taken taken' : Option (List ℕ)) → (old new : Session D S T R g d s r) → Type 0
+  SessionAnswers state text taken taken' old new =
+      Answered (faulty_of d r) (g.worlds old.pool.disks) state (mark_of g old.pool.disks) (mark_of g new.pool.disks) taken taken' text
+      (SessionStands new) (SoundFor old) (SoundFor new) (g.left_since old.pool.disks) (g.left_since new.pool.disks)
+
+  -- a session ended so at the line of this number and text
+  abbrev pub SessionStops : RunState → (number : ℕ) (text : List ℕ) → (taken taken' : Option (List ℕ)) → Ending → (old new : Session D S T R g d s r) → Type 0
+  SessionStops state number text taken taken' ending old new =
+      Unanswered (faulty_of d r) (g.worlds old.pool.disks) state (mark_of g old.pool.disks) (mark_of g new.pool.disks) taken taken' number text ending
+      (LeavesAllowed (g.worlds new.pool.disks)) (SoundFor old) AnyCells (g.left_since old.pool.disks) (g.left_since new.pool.disks)
+
+  -- a session carried the lines of the input out, up to its ending
+  abbrev pub SessionPlays : RunState → (input taken taken' : Option (List ℕ)) → Ending → (old new : Session D S T R g d s r) → Type 0
+  SessionPlays state input taken taken' ending old new =
+      Played (faulty_of d r) (g.worlds old.pool.disks) state (mark_of g old.pool.disks) (mark_of g new.pool.disks) input taken taken' ending
+      (LeavesAllowed (g.worlds new.pool.disks)) (SoundFor old) AnyCells (g.left_since old.pool.disks) (g.left_since new.pool.disks)

@@ -1,11 +1,4 @@
-pub mod State
-pub mod Commands
-pub mod Lines
-pub mod Script
-pub mod Session
-pub mod Images
-pub mod Standing
-pub mod Replies
+pub mod Endings
 pub mod Answer
 pub mod Play
 pub mod Outside

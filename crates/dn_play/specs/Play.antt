@@ -1,9 +1,13 @@
 -- What a run does with its disks, its input and its output.
 use Rattle.std.specs.Prelude.{ℕ, ◌≡◌, ◌⊎◌, List, [], ◌∷◌, Option, IfSome}
+use Rattle.disk_model.specs.declared.disks.PoolDisks.{Ghosts}
+use Rattle.disk_model.specs.declared.disks.Draft as drafts
+use Rattle.disk_model.specs.declared.disks.Reader as readers
 use Rattle.disk_model.specs.Files.{Files}
 use Rattle.disk_model.specs.Worlds.{World}
+use Rattle.disk_model.specs.Told.{CanLeave}
 use Rattle.disk_model.specs.Causes.{Rose}
-use Rattle.disk_model.specs.Marks.{Mark, IsLater}
+use Rattle.disk_model.specs.Marks.{Mark, IsLater, faulty_of, mark_of}
 use Rattle.volume_layout.specs.Paths.{IsBlockId}
 use Rattle.map_model.specs.Copies.{block_files, OneWhole}
 use Rattle.map_model.specs.Allows.{AllowsImage}
@@ -15,12 +19,12 @@ use Rattle.run_end.specs.declared.ending.Ending.{Ending}
 use Rattle.run_end.specs.declared.ending.Ending.TheVariants.{NoMemory, OpenFault, NotCarriedOut}
 use Rattle.run_end.specs.Ending.{status_of}
 use Rattle.run_end.specs.Closing.{Writes, Ends}
-use Rattle.dn_play.specs.State.{RunState, Turn, turn_lines, turn_replies, last_state, last_mark}
-use Rattle.dn_play.specs.Commands.{Trust}
-use Rattle.dn_play.specs.Lines.{Follows}
-use Rattle.dn_play.specs.Images.{AllowedSince, AllowedByEach}
-use Rattle.dn_play.specs.Standing.{IsKnown}
-use Rattle.dn_play.specs.Session.{Reads, Shows, text_of}
+use Rattle.run_model.specs.State.{RunState, Turn, turn_lines, turn_replies, last_state, last_mark}
+use Rattle.run_model.specs.Commands.{Trust}
+use Rattle.run_model.specs.Lines.{Follows}
+use Rattle.run_model.specs.Images.{AllowedSince, AllowedByEach}
+use Rattle.run_model.specs.Carrying.{IsKnown}
+use Rattle.dn_play.specs.Endings.{Reads, Shows, text_of}
 use Rattle.dn_play.specs.Answer.{IsOfLines, EndsAt, NextReopens}
 
 -- what a run is given and leaves: its disks' counts at the entry and at the exit, what they told at the entry, and its input
@@ -100,6 +104,21 @@ pub record Runs (Faulty : ℕ → ℕ → Type 0) (since : ℕ → Files → Typ
   pub shown : List Reply
   pub goes : Goes Faulty since can_leave course ending shown
   pub ends : Ends ending taken taken' (text_of shown) status
+
+module _ {D S T R : Type 0} (g : Ghosts D S T R) (d : drafts.Ghosts T S) (r : readers.Ghosts R) where
+  -- what a run over these disks is given and leaves
+  abbrev pub course_of : (input : Option (List ℕ)) → (old new : D) → Course
+  course_of input old new = record { entry = mark_of g old; exit = mark_of g new; told = g.worlds old; input = input }
+
+  -- a run over these disks up to its last line
+  abbrev pub RunsPoolOver : (input taken taken' : Option (List ℕ)) → Ending → (old new : D) → Type 0
+  RunsPoolOver input taken taken' ending old new =
+      RunsPool (faulty_of d r) (g.left_since new) (CanLeave (g.worlds new)) (course_of input old new) taken taken' ending
+
+  -- a run over these disks
+  abbrev pub RunsOver : (input taken taken' : Option (List ℕ)) → (status : ℕ) → (old new : D) → Type 0
+  RunsOver input taken taken' status old new =
+      Runs (faulty_of d r) (g.left_since new) (CanLeave (g.worlds new)) (course_of input old new) taken taken' status
 
 -- a list of one, before and after, and what holds of the two
 pub record OfOne {D : Type 0} (old new : List D) (P : D → D → Type 0) : Type 0 where

@@ -3,22 +3,22 @@ ghost use Rattle.std.specs.Prelude.{true, ◌≡◌, ◌≤◌, OnOk, OnErr, IfO
 ghost use Rattle.disk_model.specs.Causes.{Rose};
 ghost use Rattle.disk_model.specs.Files.{Files};
 ghost use Rattle.disk_model.specs.Told.{CanLeave};
-ghost use Rattle.disk_model.specs.Marks.{GoesOn, faulty_of, mark_of};
+ghost use Rattle.disk_model.specs.Marks.{GoesOn};
 ghost use Rattle.pool_open.specs.Outcome.{HasTwoMetas};
 ghost use Rattle.script_lang.specs.declared.Line.TheVariants.{Reopen};
-ghost use Rattle.dn_play.specs.Script.{is_carried};
-ghost use Rattle.dn_play.specs.State.{RunState};
-ghost use Rattle.dn_play.specs.Images.{StaysCrashSafe};
-ghost use Rattle.dn_play.specs.Standing.{SessionStands, SoundFor, LeavesAllowed, AnyCells, SessionStandsForSome, SessionCarriesLine};
-ghost use Rattle.dn_play.specs.Answer.{Answered, Unanswered, IsOfLines, reopen_ending};
+ghost use Rattle.run_model.specs.Script.{is_carried};
+ghost use Rattle.run_model.specs.State.{RunState};
+ghost use Rattle.run_model.specs.Images.{StaysCrashSafe};
+ghost use Rattle.run_session.specs.Standing.{SessionStands, SoundFor, SessionStandsForSome, SessionCarriesLine};
+ghost use Rattle.dn_play.specs.Answer.{SessionAnswers, SessionStops, IsOfLines, reopen_ending};
 
-use crate::session::Session;
 use disk_model::{PoolDisks, Sink};
 use line_io::write_all;
 use pool_open::ReopenFault;
 use run_end::Ending;
 use script_lang::reply::{Reply, write_reply};
 use script_lang::{Line, LineFault, read_line};
+use run_session::Session;
 use std::alloc::Global;
 
 /// Whether a line asks for something that is carried out.
@@ -88,17 +88,9 @@ pub fn answer<D: PoolDisks, K: Sink>(
     requires stands { SessionStandsForSome session.old }
     requires one_volume { D.volume_count session.old.pool.disks ≡ 1 }
     ensures ok { (state : RunState) → SessionStands session.old state →
-        OnOk result (Answered (faulty_of D.Draft.Draft D.Reader.Reader) (D.worlds session.old.pool.disks)
-        state (mark_of D.PoolDisks session.old.pool.disks) (mark_of D.PoolDisks session.new.pool.disks)
-        (K.taken sink.old) (K.taken sink.new) text.now (SessionStands session.new)
-        (SoundFor session.old) (SoundFor session.new)
-        (D.left_since session.old.pool.disks) (D.left_since session.new.pool.disks)) }
-    ensures err { (state : RunState) → SessionStands session.old state →
-        IfErr result (λ ending. Unanswered (faulty_of D.Draft.Draft D.Reader.Reader) (D.worlds session.old.pool.disks)
-        state (mark_of D.PoolDisks session.old.pool.disks) (mark_of D.PoolDisks session.new.pool.disks)
-        (K.taken sink.old) (K.taken sink.new) number text.now ending (LeavesAllowed (D.worlds session.new.pool.disks))
-        (SoundFor session.old) AnyCells
-        (D.left_since session.old.pool.disks) (D.left_since session.new.pool.disks)) }
+        OnOk result (SessionAnswers state text.now (K.taken sink.old) (K.taken sink.new) session.old session.new) }
+    ensures err { (state : RunState) → SessionStands session.old state → IfErr result (λ ending.
+        SessionStops state number text.now (K.taken sink.old) (K.taken sink.new) ending session.old session.new) }
     ensures of_lines { IfErr result IsOfLines }
     ensures two_metas { IsErrOf result Ending.NotCarriedOut → (image : Files) → CanLeave (D.worlds session.new.pool.disks) image → HasTwoMetas image }
     ensures goes_on { GoesOn D.PoolDisks session.old.pool.disks session.new.pool.disks }

@@ -4,17 +4,18 @@ ghost use Rattle.std.specs.Io.KnownBytes.{IsAtEnd};
 ghost use Rattle.disk_model.specs.Causes.{Rose};
 ghost use Rattle.disk_model.specs.Files.{Files};
 ghost use Rattle.disk_model.specs.Told.{CanLeave};
-ghost use Rattle.disk_model.specs.Marks.{GoesOn, faulty_of, mark_of};
+ghost use Rattle.disk_model.specs.Marks.{GoesOn};
 ghost use Rattle.pool_open.specs.Outcome.{HasTwoMetas};
-ghost use Rattle.dn_play.specs.State.{RunState};
-ghost use Rattle.dn_play.specs.Standing.{SessionStands, SoundFor, LeavesAllowed, AnyCells, SessionStandsForSome};
-ghost use Rattle.dn_play.specs.Answer.{Played, IsOfLines};
+ghost use Rattle.run_model.specs.State.{RunState};
+ghost use Rattle.run_model.specs.Carrying.{LeavesAllowed, AnyCells};
+ghost use Rattle.run_session.specs.Standing.{SessionStands, SoundFor, SessionStandsForSome};
+ghost use Rattle.dn_play.specs.Answer.{SessionPlays, IsOfLines};
 
 use crate::answer::answer;
-use crate::session::Session;
 use disk_model::{PoolDisks, Sink, Source};
 use line_io::LineReader;
 use run_end::Ending;
+use run_session::Session;
 use std::alloc::Global;
 
 /// How many bytes are asked of the source at a time.
@@ -30,11 +31,7 @@ pub fn play_lines<D: PoolDisks, S: Source, K: Sink>(
     requires stands { SessionStandsForSome session.old }
     requires one_volume { D.volume_count session.old.pool.disks ≡ 1 }
     ensures played { (state : RunState) → SessionStands session.old state →
-        Played (faulty_of D.Draft.Draft D.Reader.Reader) (D.worlds session.old.pool.disks)
-        state (mark_of D.PoolDisks session.old.pool.disks) (mark_of D.PoolDisks session.new.pool.disks)
-        (S.left source.old) (K.taken sink.old) (K.taken sink.new) result (LeavesAllowed (D.worlds session.new.pool.disks))
-        (SoundFor session.old) AnyCells
-        (D.left_since session.old.pool.disks) (D.left_since session.new.pool.disks) }
+        SessionPlays state (S.left source.old) (K.taken sink.old) (K.taken sink.new) result session.old session.new }
     ensures goes_on { GoesOn D.PoolDisks session.old.pool.disks session.new.pool.disks }
     ensures of_lines { IsOfLines result }
     ensures two_metas { result ≡ Ending.NotCarriedOut → (image : Files) → CanLeave (D.worlds session.new.pool.disks) image → HasTwoMetas image }

@@ -2,14 +2,13 @@
 ghost use Rattle.std.specs.Prelude.{◌≡◌, ◌⊎◌, true, false, All, map, string_bytes, IfSome};
 ghost use Rattle.std.specs.Io.KnownBytes.{IsAtEnd};
 ghost use Rattle.disk_model.specs.Causes.{Rose};
-ghost use Rattle.disk_model.specs.Told.{InEachWorld, CanLeave};
-ghost use Rattle.disk_model.specs.Marks.{faulty_of, mark_of};
+ghost use Rattle.disk_model.specs.Told.{InEachWorld};
 ghost use Rattle.map_model.specs.World.{DraftsAside};
 ghost use Rattle.run_end.specs.Closing.{Declines};
-ghost use Rattle.dn_play.specs.Script.{script_of};
-ghost use Rattle.dn_play.specs.Session.{status_at};
+ghost use Rattle.run_model.specs.Script.{script_of};
+ghost use Rattle.dn_play.specs.Endings.{status_at};
 ghost use Rattle.dn_play.specs.Outside.{words_fit, words_are_later};
-ghost use Rattle.dn_play.specs.Play.{Runs, OfOne};
+ghost use Rattle.dn_play.specs.Play.{RunsOver, OfOne};
 
 use crate::pool_run::play_pool;
 use crate::words::judge_words;
@@ -48,14 +47,8 @@ pub fn play<D: PoolDisks, S: Source, K: Sink>(
         Declines Ending.NotCarriedOut (K.taken sink.old) (K.taken sink.new) result.status × (source.new ≡ source.old) × (result.disks.items ≡ disks.items) }
     // Otherwise the pool is opened, and the lines of the script are carried out.
     ensures run { words_fit D.volume_count (map string_bytes words.now) disks.items ≡ true → words_are_later (map string_bytes words.now) ≡ false →
-        OfOne disks.items result.disks.items (λ before after. Runs (faulty_of D.Draft.Draft D.Reader.Reader)
-        (D.left_since after) (CanLeave (D.worlds after))
-        (record {
-          entry = mark_of D.PoolDisks before;
-          exit = mark_of D.PoolDisks after;
-          told = D.worlds before;
-          input = S.left source.old;
-        }) (K.taken sink.old) (K.taken sink.new) result.status) }
+        OfOne disks.items result.disks.items (λ before after. RunsOver D.PoolDisks D.Draft.Draft D.Reader.Reader
+        (S.left source.old) (K.taken sink.old) (K.taken sink.new) result.status before after) }
     ensures at_end { result.status ≡ 0 → IsAtEnd (S.left source.new) }
     ensures source_fault { result.status ≡ 2 → Rose (S.faults source.old) (S.faults source.new) }
     ensures sink_fault { result.status ≡ 3 → Rose (K.faults sink.old) (K.faults sink.new) }

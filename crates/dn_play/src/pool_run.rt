@@ -5,15 +5,14 @@ ghost use Rattle.disk_model.specs.Causes.{Rose};
 ghost use Rattle.disk_model.specs.Told.{InEachWorld, CanLeave};
 ghost use Rattle.disk_model.specs.Marks.{faulty_of, mark_of};
 ghost use Rattle.map_model.specs.World.{DraftsAside};
-ghost use Rattle.dn_play.specs.Play.{RunsPool};
+ghost use Rattle.dn_play.specs.Play.{RunsPoolOver};
 
 use crate::lines::play_lines;
-use crate::open_writers::OpenWriters;
-use crate::session::Session;
 use disk_model::{PoolDisks, Sink, Source};
 use pool_open::{OpenFault, open_pool};
 use pool_state::close_pool;
 use run_end::Ending;
+use run_session::{OpenWriters, Session};
 use std::alloc::Global;
 
 /// How a script ended, and the disks that were given back.
@@ -32,14 +31,8 @@ pub fn play_pool<D: PoolDisks, S: Source, K: Sink>(
 ) -> PoolRun<D>
     requires aside { InEachWorld (D.worlds disks) DraftsAside }
     requires one_volume { D.volume_count disks ≡ 1 }
-    ensures runs { RunsPool (faulty_of D.Draft.Draft D.Reader.Reader)
-        (D.left_since result.disks) (CanLeave (D.worlds result.disks))
-        (record {
-          entry = mark_of D.PoolDisks disks;
-          exit = mark_of D.PoolDisks result.disks;
-          told = D.worlds disks;
-          input = S.left source.old;
-        }) (K.taken sink.old) (K.taken sink.new) result.ending }
+    ensures runs { RunsPoolOver D.PoolDisks D.Draft.Draft D.Reader.Reader
+        (S.left source.old) (K.taken sink.old) (K.taken sink.new) result.ending disks result.disks }
     ensures at_end { result.ending ≡ Ending.Complete → IsAtEnd (S.left source.new) }
     ensures source { result.ending ≡ Ending.SourceFault → Rose (S.faults source.old) (S.faults source.new) }
     ensures sink { result.ending ≡ Ending.SinkFault → Rose (K.faults sink.old) (K.faults sink.new) }

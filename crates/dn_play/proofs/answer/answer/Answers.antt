@@ -4,7 +4,7 @@ use Rattle.std.specs.Io.KnownBytes.{Appends}
 use Rattle.line_io.specs.Written.{AppendsFront}
 use Rattle.dn_play.proofs.Answering.{not_blank, unanswered_less, unanswered_reopen, told_ok, told_bad, answered_blank, answered_command, unanswered_outside, unanswered_later, unanswered_unread, unanswered_unshown, unanswered_cut}
 use Rattle.dn_play.proofs.Crashes.{counts_on, now_safe, leaves_safe}
-use Rattle.dn_play.specs.Standing.{SessionStands}
+use Rattle.run_session.specs.Standing.{SessionStands}
 use Rattle.dn_play.proofs.answer.answer.Goals as goal
 
 pub returns-in-Err-Bad-clause-err : goal.returns-in-Err-Bad-clause-err

@@ -3,8 +3,10 @@ use Rattle.run_end.specs.declared.ending.Ending.{Ending}
 use Rattle.run_end.specs.Ending.{IsOfReading}
 use Rattle.dn_play.specs.Answer.{Played}
 use Rattle.disk_model.specs.Marks.{faulty_of, mark_of}
-use Rattle.dn_play.specs.Standing.{SessionStands, SoundFor, LeavesAllowed, AnyCells}
-use Rattle.dn_play.proofs.Progress.{starts, goes_on_by, played_nothing, played_complete, played_fault, played_unanswered, played_less, rose_from, ends_lines, answered_complete, answered_source}
+use Rattle.run_model.specs.Carrying.{LeavesAllowed, AnyCells}
+use Rattle.run_session.specs.Standing.{SessionStands, SoundFor}
+use Rattle.run_session.proofs.Stepping.{rose_from}
+use Rattle.dn_play.proofs.Progress.{starts, goes_on_by, played_nothing, played_complete, played_fault, played_unanswered, played_less, ends_lines, answered_complete, answered_source}
 use Rattle.dn_play.proofs.Crashes.{now_safe, leaves_safe}
 use Rattle.disk_model.proofs.GoingOn.{went_same, went_then}
 use Rattle.dn_play.proofs.lines.play_lines.Goals as goal

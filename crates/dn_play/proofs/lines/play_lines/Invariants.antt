@@ -1,8 +1,8 @@
 use Rattle.std.proofs.Common.{◌≤◌, ◌-◌}
 use Rattle.line_io.specs.declared.TheConstants.{INPUT_LIMIT}
 use Rattle.disk_model.specs.Marks.{GoesOn, faulty_of, mark_of}
-use Rattle.dn_play.specs.State.{RunState}
-use Rattle.dn_play.specs.Standing.{SessionStands, SoundFor}
+use Rattle.run_model.specs.State.{RunState}
+use Rattle.run_session.specs.Standing.{SessionStands, SoundFor}
 use Rattle.dn_play.proofs.Progress.{Progress}
 use Rattle.dn_play.proofs.lines.play_lines.Given as goal
 

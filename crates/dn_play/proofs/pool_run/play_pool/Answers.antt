@@ -3,7 +3,8 @@ use Rattle.std.specs.Prelude.{IsSome}
 use Rattle.pair_draft.specs.Writers.{writer_of}
 use Rattle.pool_open.specs.Outcome.{fault_disks}
 use Rattle.line_io.proofs.Appending.{appends_nothing}
-use Rattle.dn_play.proofs.Opening.{first_of, stands_first, left_start, stops_so, runs_so}
+use Rattle.run_session.proofs.Opened.{first_of, stands_first}
+use Rattle.dn_play.proofs.Opening.{left_start, stops_so, runs_so}
 use Rattle.dn_play.proofs.pool_run.play_pool.Goals as goal
 
 pub returns-in-Err-Failed-clause-runs : goal.returns-in-Err-Failed-clause-runs

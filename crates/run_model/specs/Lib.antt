@@ -1,0 +1,7 @@
+pub mod State
+pub mod Replies
+pub mod Script
+pub mod Commands
+pub mod Lines
+pub mod Images
+pub mod Carrying

@@ -1,0 +1,62 @@
+use Rattle.std.proofs.Common.{◌≡◌, ◌-◌, None, refl, sym, ◌∙◌, ap, subst, option_map}
+use Rattle.std.specs.Prelude.{MatchOption}
+use Rattle.map_model.specs.Cells.{growing}
+use Rattle.map_model.specs.Steps.{done, failed, no_writer}
+use Rattle.pool_state.specs.Books.{entry_at}
+use Rattle.pair_draft.specs.Writers.{writer_of}
+use Rattle.pool_state.proofs.Belonging.{writer_belongs}
+use Rattle.run_session.specs.Standing.{NotGrowing, OpenWriter}
+use Rattle.run_session.proofs.Stepping.{loose, at_block, crash_takes, crash_same, goes_on, stays_on, carried_same, carried_on, seen_same, took, writer_of_block, no_writer_of_block}
+use Rattle.run_session.proofs.Stepped.{no_drop, same_entries}
+use Rattle.run_session.proofs.session.Session.drop_writer.Goals as goal
+
+pub returns-in_default-clause-step : goal.returns-in_default-clause-step
+returns-in_default-clause-step g c state standing =
+    let id = c.args.id in
+    let f = writer_of g.D.Draft.Draft.place g.D.Draft.Draft.bytes in
+    let absent = sym c.in_default.ensures.found in
+    let same = stays_on standing standing.pool (λ t. t) (λ other. refl) (seen_same f _ _ (same_entries id _ _ absent c.in_default.ensures.taken)) in
+    carried_same same (crash_same _ _ _) no_writer (λ trust known. refl)
+    (no_drop (state.cells id) (no_writer_of_block _ _ _ (ap (option_map f) absent) (standing.writer id c.remove.ensures.valid))) (λ e. absurd cc) (λ e w. absurd cc) refl refl (λ no. absurd no)
+
+pub drop_write-requires-clause-stands : goal.drop_write-requires-clause-stands
+drop_write-requires-clause-stands g c = (_, loose c.requires.stands.1)
+
+pub drop_write-requires-clause-belongs : goal.drop_write-requires-clause-belongs
+drop_write-requires-clause-belongs g c =
+    let f = writer_of g.D.Draft.Draft.place g.D.Draft.Draft.bytes in
+    let w = c.in-Some.writer in
+    let at = writer_of_block _ _ _ (f w) (ap (option_map f) (sym c.in-Some.ensures.found)) (c.requires.stands.1.writer c.args.id c.remove.ensures.valid) in
+    writer_belongs at.stands
+
+pub returns-in-Ok-clause-step : goal.returns-in-Ok-clause-step
+returns-in-Ok-clause-step g c state standing =
+    let id = c.args.id in
+    let f = writer_of g.D.Draft.Draft.place g.D.Draft.Draft.bytes in
+    let w = c.in-Some.writer in
+    let at = writer_of_block _ _ _ (f w) (ap (option_map f) (sym c.in-Some.ensures.found)) (standing.writer id c.remove.ensures.valid) in
+    let grows : state.cells w.id ≡ growing w.stamp None at.bytes (w.reserved - w.len) = ap state.cells at.of ∙ at.grows in
+    let both = at_block at.of (c.in-Ok.ensures.step state.cells at.bytes (w.reserved - w.len) (loose standing) grows) in
+    let t = both.0 in
+    let seen = took f id _ _ c.in-Some.ensures.taken in
+    carried_on t.to.cell
+    (goes_on standing id t.to.cell state.writers (t.to.stands _ standing.pool) c.in-Ok.ensures.goes_on.honest.1 (λ other apart. c.in-Ok.ensures.others other (λ e. apart (e ∙ at.of))) seen.0 (λ other apart. refl)
+    (subst (λ o. MatchOption o (NotGrowing t.to.cell) (OpenWriter (g.D.PoolDisks.worlds c.drop_write.new.self.disks) (entry_at c.drop_write.new.self.map) id t.to.cell (state.writers id))) (sym seen.1)
+    (subst NotGrowing (sym (t.to.says.1 refl)) tt)))
+    (crash_takes both) done (λ trust known. refl) t.to.step (λ e. absurd cc) (λ e x. absurd cc) refl refl (λ no. absurd no)
+
+pub returns-in-Err-clause-step : goal.returns-in-Err-clause-step
+returns-in-Err-clause-step g c state standing =
+    let id = c.args.id in
+    let f = writer_of g.D.Draft.Draft.place g.D.Draft.Draft.bytes in
+    let w = c.in-Some.writer in
+    let at = writer_of_block _ _ _ (f w) (ap (option_map f) (sym c.in-Some.ensures.found)) (standing.writer id c.remove.ensures.valid) in
+    let grows : state.cells w.id ≡ growing w.stamp None at.bytes (w.reserved - w.len) = ap state.cells at.of ∙ at.grows in
+    let both = at_block at.of (c.in-Err.ensures.step state.cells at.bytes (w.reserved - w.len) (loose standing) grows) in
+    let t = both.0 in
+    let seen = took f id _ _ c.in-Some.ensures.taken in
+    carried_on t.to.cell
+    (goes_on standing id t.to.cell state.writers (t.to.stands _ standing.pool) c.in-Err.ensures.goes_on.honest.1 (λ other apart. c.in-Err.ensures.others other (λ e. apart (e ∙ at.of))) seen.0 (λ other apart. refl)
+    (subst (λ o. MatchOption o (NotGrowing t.to.cell) (OpenWriter (g.D.PoolDisks.worlds c.drop_write.new.self.disks) (entry_at c.drop_write.new.self.map) id t.to.cell (state.writers id))) (sym seen.1)
+    (subst NotGrowing (sym (t.to.says.0 refl)) tt)))
+    (crash_takes both) failed (λ trust known. refl) t.to.step (λ e. c.in-Err.ensures.failed refl) (λ e x. absurd cc) refl refl (λ no. absurd no)
