@@ -5,9 +5,10 @@
 //! followed, and no file is written but one that `create` made. Trusted is what `volume_locks`, `durable` and `os_files`
 //! say of the system, and that nobody else changes these directories. Nothing is told of what they hold; each failed
 //! call, and each file that was looked for and absent, is counted.
-ghost use Rattle.std.specs.Prelude.{◌≡◌, ◌≤◌, None, IsOk, IfOk, IsTrue, All, length};
+ghost use Rattle.std.specs.Prelude.{◌≡◌, ◌≤◌, None, IsOk, IsErr, IfOk, OnOk, IsTrue, All, length};
+ghost use Rattle.std.specs.Arc.{arc_value};
 ghost use Rattle.disk_model.specs.Names.{IsBelow, IsInOrder};
-ghost use Rattle.disk_model.specs.Causes.{Rose};
+ghost use Rattle.disk_model.specs.Causes.{Rose, HasCause};
 ghost use Rattle.disk_model.specs.Untold.{untold_is_disk, untold_stands_within, untold_leaves_nothing};
 
 use crate::listing::file_names;
@@ -170,6 +171,27 @@ impl OsDisks {
         self.fail();
         DiskError::Failed
     }
+
+    /// Puts the real path of a pool's file into `path`, and answers from which byte on the path is the pool's. It takes
+    /// no memory beyond that of the buffer. Where there is no path, that is counted as a call that failed.
+    fn locate(&mut self, vol: u8, path: &str) -> Result<usize, Failed>
+        ensures cause { HasCause self.old.faults self.new.faults (IsErr result) }
+        ensures ok { OnOk result (self.new.faults ≡ self.old.faults) }
+        ensures held { OnOk result (length (arc_value self.old.locks).locked.items ≡ (arc_value self.old.locks).volumes) }
+        ensures rest { self.new ≡ record self.old { path = self.new.path; faults = self.new.faults } }
+    {
+        let joined = join(
+            &mut self.path,
+            &self.locks,
+            self.roots.as_slice(),
+            vol,
+            path,
+        );
+        match joined {
+            Ok(below) => Ok(below),
+            Err(Failed) => Err(self.fail()),
+        }
+    }
 }
 
 impl PoolDisks for OsDisks {
@@ -207,9 +229,8 @@ impl PoolDisks for OsDisks {
 
     fn list(&mut self, alloc: Global, vol: u8, dir: &str) -> Result<Names, DiskError> {
         let is_unmade = mem::replace(&mut self.is_unmade, false);
-        let joined = join(&mut self.path, &self.locks, self.roots.as_slice(), vol, dir);
-        let Ok(below) = joined else {
-            return Err(self.fail_disk());
+        let Ok(below) = self.locate(vol, dir) else {
+            return Err(DiskError::Failed);
         };
         if is_unmade {
             return Err(self.fail_disk());
@@ -222,16 +243,7 @@ impl PoolDisks for OsDisks {
     }
 
     fn size(&mut self, vol: u8, path: &str) -> Result<Option<u64>, Failed> {
-        let joined = join(
-            &mut self.path,
-            &self.locks,
-            self.roots.as_slice(),
-            vol,
-            path,
-        );
-        let Ok(below) = joined else {
-            return Err(self.fail());
-        };
+        let below = self.locate(vol, path)?;
         match kinds::find_below(&self.rt, self.path.as_str(), below) {
             Ok(Some(metadata)) => Ok(Some(metadata.len())),
             Ok(None) => {
@@ -249,15 +261,8 @@ impl PoolDisks for OsDisks {
         path: &str,
     ) -> Result<Option<OsReader>, DiskError> {
         let number = self.next_number;
-        let joined = join(
-            &mut self.path,
-            &self.locks,
-            self.roots.as_slice(),
-            vol,
-            path,
-        );
-        let Ok(below) = joined else {
-            return Err(self.fail_disk());
+        let Ok(below) = self.locate(vol, path) else {
+            return Err(DiskError::Failed);
         };
         if number == u64::MAX {
             return Err(self.fail_disk());
@@ -281,15 +286,8 @@ impl PoolDisks for OsDisks {
 
     fn create(&mut self, alloc: Global, vol: u8, path: &str) -> Result<OsDraft, DiskError> {
         let number = self.next_number;
-        let joined = join(
-            &mut self.path,
-            &self.locks,
-            self.roots.as_slice(),
-            vol,
-            path,
-        );
-        let Ok(below) = joined else {
-            return Err(self.fail_disk());
+        let Ok(below) = self.locate(vol, path) else {
+            return Err(DiskError::Failed);
         };
         if number == u64::MAX {
             return Err(self.fail_disk());
@@ -312,16 +310,7 @@ impl PoolDisks for OsDisks {
             path: from,
             ..
         } = sealed;
-        let joined = join(
-            &mut self.path,
-            &self.locks,
-            self.roots.as_slice(),
-            vol,
-            from.as_str(),
-        );
-        let Ok(below) = joined else {
-            return Err(self.fail());
-        };
+        let below = self.locate(vol, from.as_str())?;
         if join(
             &mut self.other,
             &self.locks,
@@ -338,16 +327,7 @@ impl PoolDisks for OsDisks {
     }
 
     fn remove(&mut self, vol: u8, path: &str) -> Result<(), Failed> {
-        let joined = join(
-            &mut self.path,
-            &self.locks,
-            self.roots.as_slice(),
-            vol,
-            path,
-        );
-        let Ok(below) = joined else {
-            return Err(self.fail());
-        };
+        let below = self.locate(vol, path)?;
         if durable::remove(&self.rt, self.path.as_str(), below).is_err() {
             return Err(self.fail());
         }

@@ -1,3 +1,5 @@
+ghost use Rattle.std.specs.Prelude.{◌≡◌};
+
 use super::*;
 use std::alloc::{AllocError, Global};
 use std::process::Abort;
@@ -95,6 +97,63 @@ fn replicas_come_in_the_order_of_their_directories(rt: HostRuntime) -> Result<()
     }
     expect_order(&rt, &map, 1, &[5, 8197]);
     assert_eq!(rt; map.used(1), 62);
+    Ok(())
+}
+
+/// A row of a block, beside whose entry nothing is kept.
+fn row(rt: &impl Abort, id: u64, stamp: Stamp, vol: u8, state: State, len: u64) -> Row
+    ensures { result.entry.id ≡ id }
+{
+    let Some(id) = BlockId::new(id) else {
+        panic!(rt; "no id");
+    };
+    let entry = Entry {
+        id,
+        stamp,
+        len,
+        vol,
+        rev: 1,
+        state,
+    };
+    Row { entry, grown: None }
+}
+
+/// The rows are these, and each is found by its block.
+fn expect_rows(rt: &impl Abort, map: &ReplicaMap, rows: &[Row]) {
+    assert_eq!(rt; map.entry_count(), rows.len());
+    for row in rows {
+        assert_eq!(rt; map.find(row.entry.id), Some(row.entry));
+        assert_eq!(rt; map.grown(row.entry.id), row.grown);
+    }
+}
+
+#[test]
+fn books_are_made_of_rows(rt: HostRuntime) -> Result<(), Fail> {
+    let Some(stamp) = Stamp::new(1001) else {
+        panic!(rt; "no stamp");
+    };
+    let grown = Grown {
+        base: Some(Base { stamp, len: 20 }),
+        reserved: 25,
+        block_no: 1,
+        meta_no: 2,
+    };
+    let rows = vec![in rt.alloc();
+        row(&rt, 5, stamp, 2, State::Finalised, 10),
+        Row {
+            grown: Some(grown),
+            ..row(&rt, 6, stamp, 2, State::Writing, 25)
+        },
+        row(&rt, 261, stamp, 1, State::Finalised, 20),
+        row(&rt, 8197, stamp, 1, State::Finalised, 7),
+        row(&rt, 65541, stamp, 2, State::Waiting, 99),
+    ]?;
+    let map = ReplicaMap::from_rows(rt.alloc(), rows.clone()?)?;
+    expect_rows(&rt, &map, rows.as_slice());
+    assert_eq!(rt; map.writing_count(), 1);
+    assert_eq!(rt; [map.used(1), map.used(2), map.used(3)], [27, 55, 0]);
+    expect_order(&rt, &map, 1, &[8197, 261]);
+    expect_order(&rt, &map, 2, &[5]);
     Ok(())
 }
 
