@@ -1,5 +1,5 @@
 -- What a replica map holds, as its callers see it.
-use Rattle.std.specs.Prelude.{ℕ, ◌≡◌, ◌+◌, ◌==◌, ◌≢◌, if◌then◌else◌, List, [], ◌∷◌, ◌++◌, find, filter, position, slice_get, sum_by, Option, Some, None, ◌⊎◌, option_map, option_and_then}
+use Rattle.std.specs.Prelude.{ℕ, ◌≡◌, ◌+◌, ◌==◌, ◌≢◌, if◌then◌else◌, List, [], ◌∷◌, ◌++◌, find, filter, position, sum_by, Option, Some, None, ◌⊎◌, option_map, option_and_then}
 use Rattle.volume_layout.specs.Places.{IsBefore, block_place}
 use Rattle.volume_layout.specs.declared.place.Place.{Place}
 use Rattle.replica_map.specs.declared.entry.Entry.{Entry}
