@@ -203,7 +203,7 @@ unanswered_less {state = state} u weaken = record {
 }
 
 -- an opening again that wasn't done
-module _ {told now : Option (List World)} (state : RunState) {before after : Mark} {Sound : Cells → Type 0} {past since : ℕ → Files → Type 0}
+module _ {now : Option (List World)} (state : RunState) {before after : Mark} {Sound : Cells → Type 0} {past since : ℕ → Files → Type 0}
     (counts : IsLater before after) (passes : Passes before.moment past since) (first : AllowedFrom past before state) (stays : StaysCrashSafe state.cells Sound past since)
     (leaves : (image : Files) → CanLeave now image → since before.moment image) where
   -- it allows what the cells before it allow
@@ -219,9 +219,9 @@ module _ {told now : Option (List World)} (state : RunState) {before after : Mar
   crashed : LinesCrashSafe before state [] Sound AnyCells past since
   crashed = record { passes = passes; each = still; sound = λ sound. tt; sound_images = stays.sound_images }
 
-  pub unanswered_reopen : (Faulty : ℕ → ℕ → Type 0) (taken : Option (List ℕ)) (number : ℕ) (text : List ℕ) (fault : ReopenFault) (ending : Ending) → ending ≡ reopen_ending fault →
+  pub unanswered_reopen : {told : Option (List World)} (Faulty : ℕ → ℕ → Type 0) (taken : Option (List ℕ)) (number : ℕ) (text : List ℕ) (fault : ReopenFault) (ending : Ending) → ending ≡ reopen_ending fault →
       line_of text ≡ Ok Reopen → (fault ≡ Failed → Rose before.faults after.faults) → Unanswered Faulty told state before after taken taken number text ending (LeavesAllowed now) Sound AnyCells past since
-  unanswered_reopen Faulty taken number text fault ending is e rose =
+  unanswered_reopen {told} Faulty taken number text fault ending is e rose =
       subst (λ (x : Ending). Unanswered Faulty told state before after taken taken number text x (LeavesAllowed now) Sound AnyCells past since) (sym is) (by_fault fault rose)
     where
       by_fault : (f : ReopenFault) → (f ≡ Failed → Rose before.faults after.faults) → Unanswered Faulty told state before after taken taken number text (reopen_ending f) (LeavesAllowed now) Sound AnyCells past since

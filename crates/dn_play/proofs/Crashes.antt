@@ -60,47 +60,47 @@ first_allowed state [] image allows = allows
 first_allowed state (turn ∷ turns) image allows = inl allows
 
 -- and so is what some moment from the first line on could have left
-pub each_allowed : {since : ℕ → Files → Type 0} {mark : Mark} (state : RunState) (turns : List Turn) (image : Files) → AllowedByEach since mark state turns →
+pub each_allowed : (since : ℕ → Files → Type 0) (mark : Mark) (state : RunState) (turns : List Turn) (image : Files) → AllowedByEach since mark state turns →
     since mark.moment image → AllowedByOne state turns image
-each_allowed state [] image each s = (each image s).0
-each_allowed state (turn ∷ turns) image each s = elim (each.0 image s) [
+each_allowed since mark state [] image each s = (each image s).0
+each_allowed since mark state (turn ∷ turns) image each s = elim (each.0 image s) [
   | inl here ↦ elim here.0 [ inl before ↦ inl before | inr after ↦ inr (first_allowed turn.state turns image after) ]
-  | inr later ↦ inr (each_allowed turn.state turns image each.1 later)
+  | inr later ↦ inr (each_allowed since turn.mark turn.state turns image each.1 later)
 ]
 
 -- which has one whole copy of each block
-pub each_whole : {since : ℕ → Files → Type 0} {mark : Mark} (state : RunState) (turns : List Turn) (image : Files) → AllowedByEach since mark state turns → since mark.moment image → OneWhole image
-each_whole state [] image each s = (each image s).1
-each_whole state (turn ∷ turns) image each s = elim (each.0 image s) [ inl here ↦ here.1 | inr later ↦ each_whole turn.state turns image each.1 later ]
+pub each_whole : (since : ℕ → Files → Type 0) (mark : Mark) (state : RunState) (turns : List Turn) (image : Files) → AllowedByEach since mark state turns → since mark.moment image → OneWhole image
+each_whole since mark state [] image each s = (each image s).1
+each_whole since mark state (turn ∷ turns) image each s = elim (each.0 image s) [ inl here ↦ here.1 | inr later ↦ each_whole since turn.mark turn.state turns image each.1 later ]
 
 -- the moment doesn't fall over lines
-pub later_moment : {Faulty : ℕ → ℕ → Type 0} (mark : Mark) (state : RunState) (turns : List Turn) → Follows any_disks Faulty state mark turns → mark.moment ≤ (last_mark mark turns).moment
-later_moment mark state [] follows = omega arith
-later_moment mark state (turn ∷ turns) follows = let rest = later_moment turn.mark turn.state turns follows.1 in omega (arith, rest, follows.0.counts.moment)
+pub later_moment : (Faulty : ℕ → ℕ → Type 0) (mark : Mark) (state : RunState) (turns : List Turn) → Follows any_disks Faulty state mark turns → mark.moment ≤ (last_mark mark turns).moment
+later_moment Faulty mark state [] follows = omega arith
+later_moment Faulty mark state (turn ∷ turns) follows = let rest = later_moment Faulty turn.mark turn.state turns follows.1 in omega (arith, rest, follows.0.counts.moment)
 
 -- lines behind lines
-each_on : {Faulty : ℕ → ℕ → Type 0} {mid since : ℕ → Files → Type 0} (mark now : Mark) (state : RunState) (turns more : List Turn) → last_mark mark turns ≡ now →
+each_on : (Faulty : ℕ → ℕ → Type 0) {mid since : ℕ → Files → Type 0} (mark now : Mark) (state : RunState) (turns more : List Turn) → last_mark mark turns ≡ now →
     Follows any_disks Faulty state mark turns → Passes now.moment mid since → AllowedByEach mid mark state turns →
     AllowedByEach since now (last_state state turns) more → AllowedByEach since mark state (turns ++ more)
-each_on {since = since} mark now state [] more at follows passes each rest = subst (λ m. AllowedByEach since m state more) (sym at) rest
-each_on mark now state (turn ∷ turns) more at follows passes each rest = (
+each_on Faulty {since = since} mark now state [] more at follows passes each rest = subst (λ m. AllowedByEach since m state more) (sym at) rest
+each_on Faulty mark now state (turn ∷ turns) more at follows passes each rest = (
   λ image s. elim (passes.adds mark.moment image s) [
     | inl earlier ↦ elim (each.0 image earlier) [ inl allowed ↦ inl allowed | inr after ↦ inr (passes.keeps turn.mark.moment image after) ]
-    | inr new ↦ inr (new turn.mark.moment (subst (λ (m : Mark). turn.mark.moment ≤ m.moment) at (later_moment turn.mark turn.state turns follows.1)))
+    | inr new ↦ inr (new turn.mark.moment (subst (λ (m : Mark). turn.mark.moment ≤ m.moment) at (later_moment Faulty turn.mark turn.state turns follows.1)))
   ],
-  each_on turn.mark now turn.state turns more at follows.1 passes each.1 rest,
+  each_on Faulty turn.mark now turn.state turns more at follows.1 passes each.1 rest,
 )
 
 last_after : (state : RunState) (turns more : List Turn) → last_state state (turns ++ more) ≡ last_state (last_state state turns) more
 last_after state [] more = refl
 last_after state (turn ∷ turns) more = last_after turn.state turns more
 
-pub crash_on : {Faulty : ℕ → ℕ → Type 0} {mark now : Mark} {state : RunState} {turns more : List Turn} {Sound Between SoundNow : Cells → Type 0} {past mid since : ℕ → Files → Type 0} →
+pub crash_on : (Faulty : ℕ → ℕ → Type 0) {mark now : Mark} {state : RunState} {turns more : List Turn} {Sound Between SoundNow : Cells → Type 0} {past mid since : ℕ → Files → Type 0} →
     last_mark mark turns ≡ now → Follows any_disks Faulty state mark turns → LinesCrashSafe mark state turns Sound Between past mid →
     LinesCrashSafe now (last_state state turns) more Between SoundNow mid since → LinesCrashSafe mark state (turns ++ more) Sound SoundNow past since
-crash_on {mark = mark} {now} {state} {turns} {more} {SoundNow = SoundNow} at follows first second = record {
-  passes = passed_then (subst (λ (m : Mark). mark.moment ≤ m.moment) at (later_moment mark state turns follows)) first.passes second.passes;
-  each = each_on mark now state turns more at follows second.passes first.each second.each;
+crash_on Faulty {mark = mark} {now = now} {state = state} {turns = turns} {more = more} {SoundNow = SoundNow} at follows first second = record {
+  passes = passed_then (subst (λ (m : Mark). mark.moment ≤ m.moment) at (later_moment Faulty mark state turns follows)) first.passes second.passes;
+  each = each_on Faulty mark now state turns more at follows second.passes first.each second.each;
   sound = λ sound. subst (λ (s : RunState). SoundNow s.cells) (sym (last_after state turns more)) (second.sound (first.sound sound));
   sound_images = λ sound t image s. elim (second.sound_images (first.sound sound) t image s) [
     | inl earlier ↦ first.sound_images sound t image earlier

@@ -166,14 +166,14 @@ module _ {D S T R : Type 0} (g : Ghosts D S T R) (Faulty : ℕ → ℕ → Type 
           shows = p.shows;
           of_lines = of_lines;
           images = λ start holds image s. elim (since_opening start holds image s) [
-            | inl alike ↦ first_allowed _ p.turns image (start_allows (block_files start) opens.cells image opens.opened (made start holds) alike)
-            | inr later ↦ each_allowed _ p.turns image p.crash.each later
+            | inl alike ↦ first_allowed (first_of opens.cells opens.metas) p.turns image (start_allows (block_files start) opens.cells image opens.opened (made start holds) alike)
+            | inr later ↦ each_allowed (g.left_since after) (mark_of g mid) (first_of opens.cells opens.metas) p.turns image p.crash.each later
           ];
           images_opening = since_opening;
           images_each = p.crash.each;
           images_at_exit = λ image leaves. (p.stands image leaves).0;
           whole_at_exit = λ image leaves. (p.stands image leaves).1;
-          whole = λ image s. each_whole _ p.turns image p.crash.each s;
+          whole = λ image s. each_whole (g.left_since after) (mark_of g mid) (first_of opens.cells opens.metas) p.turns image p.crash.each s;
           later = later;
           sound = λ start holds sound image s.
               let worlds_are = sound_start (g.worlds before) start holds sound in

@@ -310,7 +310,7 @@ module _ {Faulty : ℕ → ℕ → Type 0} {told : Option (List World)} {state :
         follows = all_follow Faulty told told_now state before now honest p.crash.sound p.turns a.turns p.at_mark p.follows a.follows;
         stands = subst StandsThen (sym (last_state-append state p.turns a.turns)) a.stands;
         at_mark = marks_on a.turns a.at_mark;
-        crash = crash_on p.at_mark (p.follows any_disks tt) p.crash a.crash;
+        crash = crash_on Faulty p.at_mark (p.follows any_disks tt) p.crash a.crash;
         written = subst (λ r. Appends taken taken'' (text_of r)) (sym (turn_replies-append p.turns a.turns)) (appends_replies taken taken' taken'' (turn_replies p.turns) (turn_replies a.turns) p.written a.written);
         read = subst (λ c. OfUnread (λ unread rest. script_of unread ≡ prepend c (script_from (number + 1) count' (terminated_lines rest))) [] input pending' left') (sym (turn_lines-append p.turns a.turns))
             (unread_chain
@@ -336,7 +336,7 @@ module _ {Faulty : ℕ → ℕ → Type 0} {told : Option (List World)} {state :
             (ends_on (λ says. subst (NextReopens input) (sym (turn_lines-append p.turns u.turns))
             (reopen_on input left left' pending pending' number count count' text (turn_lines p.turns) (turn_lines u.turns) p.read t (subst (λ s. SaysReopen s (turn_lines u.turns)) same_text says)))
             ending (last_mark now u.turns) after u.at_mark);
-        crash = crash_on p.at_mark (p.follows any_disks tt) p.crash u.crash;
+        crash = crash_on Faulty p.at_mark (p.follows any_disks tt) p.crash u.crash;
         read = subst (λ c. IfSome input (λ bytes. Reads bytes c ending)) (sym (turn_lines-append p.turns u.turns))
             (reads_on input left left' pending pending' number count count' text (turn_lines p.turns) (turn_lines u.turns) ending p.read t (subst (λ s. SaysUpTo (number + 1) s (turn_lines u.turns) ending) same_text u.says));
         shows = subst (λ r. Shows r ending (turn_replies p.turns ++ u.shown)) (sym (turn_replies-append p.turns u.turns)) (shows_on (turn_replies p.turns) (turn_replies u.turns) u.shown ending u.shows);
