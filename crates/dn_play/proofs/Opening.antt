@@ -131,13 +131,12 @@ module _ {D S T R : Type 0} (g : Ghosts D S T R) (Faulty : ℕ → ℕ → Type 
   pub runs_so : (mid after out : D) {volumes : ℕ} {entries : ℕ → Option Entry} {found : ℕ → List Leftover} {SoundNow : Cells → Type 0}
       (input taken taken' : Option (List ℕ)) (ending : Ending) → out ≡ after → GoesOn g before mid →
       (opens : Opens (g.worlds before) (g.worlds mid) volumes entries found (g.left_since before) (g.left_since mid)) →
-      ((image : Files) → g.left_since mid (g.moment mid) image → CanLeave (g.worlds mid) image) →
       Played Faulty (g.worlds mid) (first_of opens.cells opens.metas) (mark_of g mid) (mark_of g after) input taken taken' ending
       (LeavesAllowed (g.worlds after)) (PoolStands (g.worlds mid) volumes entries found matching) SoundNow (g.left_since mid) (g.left_since after) → IsOfLines ending →
       ((image : Files) → HoldsImage (g.worlds before) image → HasTwoMetas image → ⊥) → AddsOnly (g.left_since before) (g.left_since mid) (ReadsAsOne (g.worlds before)) →
       (ending ≡ NotCarriedOut → (image : Files) → CanLeave (g.worlds after) image → HasTwoMetas image) →
       RunsPool Faulty (g.left_since out) (CanLeave (g.worlds out)) (course_between out input) taken taken' ending
-  runs_so mid after out {volumes} {entries} {found} {SoundNow} input taken taken' ending is went opens only_mid p of_lines one_meta meanwhile later =
+  runs_so mid after out {volumes} {entries} {found} {SoundNow} input taken taken' ending is went opens p of_lines one_meta meanwhile later =
       let since_opening : (start : Files) → HoldsImage (g.worlds before) start → ReadsAlikeUpTo (g.left_since after) (mark_of g before) (mark_of g mid) start = λ start holds image s.
       elim (p.crash.passes.adds (g.moment before) image s) [
         | inl earlier ↦ inl (reads_start mid start holds meanwhile image earlier)

@@ -46,8 +46,8 @@ pub record Answered (Faulty : ℕ → ℕ → Type 0) (told : Option (List World
 abbrev pub FirstOfLine : ℕ → List ℕ → List Line → Type 0
 FirstOfLine number text commands = (rest : Script) → (others : List Line) × ((script_after number (line_of text) rest).commands ≡ commands ++ others)
 
--- How the counts at the end follow those after the last line that was answered: they are the same, but where an opening again
--- was begun and not done. `Reopens` says that the next line asks for one.
+-- How the counts at the end follow those after the last line that was answered: they are the same, but where an opening
+-- again was begun and not done. `Reopens` says that the next line asks for one.
 abbrev pub EndsAt : (Reopens : Type 0) → Ending → Mark → Mark → Type 0
 EndsAt Reopens NoMemory last end = (last ≡ end) ⊎ (Reopens × IsLater last end)
 EndsAt Reopens OpenFault last end = IsLater last end × Rose last.faults end.faults
@@ -95,7 +95,8 @@ pub record Unanswered (Faulty : ℕ → ℕ → Type 0) (told : Option (List Wor
   pub shows : Shows (turn_replies turns) ending shown
   pub written : Writes (status_of ending) taken taken' (text_of shown)
 
--- The lines of a session up to its ending: they follow one another, their replies are written, and they are those of the input.
+-- The lines of a session up to its ending: they follow one another, their replies are written, and they are those of
+-- the input.
 pub record Played (Faulty : ℕ → ℕ → Type 0) (told : Option (List World)) (state : RunState) (before after : Mark) (input taken taken' : Option (List ℕ)) (ending : Ending)
     (StandsFor : RunState → Type 0) (Sound SoundNow : Cells → Type 0) (past since : ℕ → Files → Type 0) : Type 0 where
   pub turns : List Turn

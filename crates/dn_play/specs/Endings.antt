@@ -28,8 +28,8 @@ FirstCommands bytes commands = (others : List Line) × ((script_of bytes).comman
 abbrev pub AllCommands : List ℕ → List Line → Stop → Type 0
 AllCommands bytes commands stop = script_of bytes ≡ record { commands = commands; stop = stop }
 
--- the commands that a session carries out where it ends so, its pool having been opened; where it ends at an opening again, its
--- line is the next one
+-- the commands that a session carries out where it ends so, its pool having been opened; where it ends at an opening
+-- again, its line is the next one
 abbrev pub Reads : List ℕ → List Line → Ending → Type 0
 Reads bytes commands Complete = AllCommands bytes commands AtEnd
 Reads bytes commands (Outside line column) = AllCommands bytes commands (AtOutside line column)

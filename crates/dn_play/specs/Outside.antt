@@ -22,7 +22,8 @@ names_several said = nat_lt 1 (length said.pools) || nat_lt 1 (length said.volum
 abbrev pub words_are_later : List (List ℕ) → Bool
 words_are_later words = option_map_or names_several (node_of words) false
 
--- how a run ends whose words aren't carried out: they don't fit, or name several pools or volumes, or there is no memory to read them
+-- how a run ends whose words aren't carried out: they don't fit, or name several pools or volumes, or there is no
+-- memory to read them
 abbrev pub IsJudged : Bool → Bool → Option Ending → Type 0
 IsJudged fit later None = (fit ≡ true) × (later ≡ false)
 IsJudged fit later (Some Usage) = fit ≡ false

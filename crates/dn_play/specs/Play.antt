@@ -27,7 +27,8 @@ use Rattle.run_model.specs.Carrying.{IsKnown}
 use Rattle.dn_play.specs.Endings.{Reads, Shows, text_of}
 use Rattle.dn_play.specs.Answer.{IsOfLines, EndsAt, NextReopens}
 
--- what a run is given and leaves: its disks' counts at the entry and at the exit, what they told at the entry, and its input
+-- what a run is given and leaves: its disks' counts at the entry and at the exit, what they told at the entry, and its
+-- input
 pub record Course : Type 0 where
   pub entry : Mark
   pub exit : Mark
@@ -42,8 +43,9 @@ BeginsSound told = (start : Files) × HoldsImage told start × IsSound start
 abbrev pub IsBeforeOpened : Ending → Type 0
 IsBeforeOpened ending = (ending ≡ NoMemory) ⊎ ((ending ≡ OpenFault) ⊎ (ending ≡ NotCarriedOut))
 
--- The opening wasn't done, and nothing was carried out: it failed, or memory was wanting, or two metas of a block stand. Every
--- image that a crash could leave since the entry reads as the one at the beginning, and is sound where that is.
+-- The opening wasn't done, and nothing was carried out: it failed, or memory was wanting, or two metas of a block
+-- stand. Every image that a crash could leave since the entry reads as the one at the beginning, and is sound where
+-- that is.
 pub record StopsUnopened (since : ℕ → Files → Type 0) (course : Course) (ending : Ending) (shown : List Reply) : Type 0 where
   pub is_before : IsBeforeOpened ending
   pub nothing : shown ≡ []
@@ -53,18 +55,20 @@ pub record StopsUnopened (since : ℕ → Files → Type 0) (course : Course) (e
   pub images : (start : Files) → HoldsImage course.told start → (image : Files) → since course.entry.moment image → ReadsAlike (block_files start) image
   pub sound : (start : Files) → HoldsImage course.told start → IsSound start → (image : Files) → since course.entry.moment image → IsSound image
 
--- what some moment from this one on could have left reads as the image does, or some moment from that one on could have left it
+-- what some moment from this one on could have left reads as the image does, or some moment from that one on could have
+-- left it
 abbrev pub ReadsAlikeUpTo : (since : ℕ → Files → Type 0) → Mark → Mark → Files → Type 0
 ReadsAlikeUpTo since from to start = (image : Files) → since from.moment image → ReadsAlike (block_files start) image ⊎ since to.moment image
 
--- The opening was done. Then lines of the script were carried out, in order, whatever is known of the disks. Where the disks
--- tell one image at the entry, the first cells are what an opening makes of it, and the meta files those of its copies.
--- What a crash could leave from the entry on reads as that image, or could be left since the opening's end; what it could leave
--- since a line's beginning, the cells before or after that line allow, or it could be left since the line's end; what it could
--- leave since the last line's end, the cells after it allow, and so does each image that can be left at the exit.
--- Of each block that has a copy in an image that a crash could leave since the opening's end, one whole copy stands alone. Where
--- the image at the entry is sound, so is each that a crash could leave since then. The run may end at an opening again that isn't
--- done; where that is because two metas of a block stand, they stand in each image that can be left.
+-- The opening was done. Then lines of the script were carried out, in order, whatever is known of the disks. Where the
+-- disks tell one image at the entry, the first cells are what an opening makes of it, and the meta files those of its
+-- copies. What a crash could leave from the entry on reads as that image, or could be left since the opening's end;
+-- what it could leave since a line's beginning, the cells before or after that line allow, or it could be left since
+-- the line's end; what it could leave since the last line's end, the cells after it allow, and so does each image that
+-- can be left at the exit. Of each block that has a copy in an image that a crash could leave since the opening's end,
+-- one whole copy stands alone. Where the image at the entry is sound, so is each that a crash could leave since then.
+-- The run may end at an opening again that isn't done; where that is because two metas of a block stand, they stand in
+-- each image that can be left.
 pub record RunsLines (Faulty : ℕ → ℕ → Type 0) (since : ℕ → Files → Type 0) (can_leave : Files → Type 0) (course : Course) (ending : Ending) (shown : List Reply) : Type 0 where
   pub first : RunState
   pub mark : Mark

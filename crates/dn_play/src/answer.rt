@@ -16,9 +16,9 @@ use disk_model::{PoolDisks, Sink};
 use line_io::write_all;
 use pool_open::ReopenFault;
 use run_end::Ending;
+use run_session::Session;
 use script_lang::reply::{Reply, write_reply};
 use script_lang::{Line, LineFault, read_line};
-use run_session::Session;
 use std::alloc::Global;
 
 /// Whether a line asks for something that is carried out.

@@ -1,10 +1,9 @@
 -- Calls that look, one after the other.
-use Rattle.std.proofs.Common.{◌≡◌, ◌≤◌, ◌↔◌, inl, inr, ℕ, List, Option, IsSome, refl, ◌∙◌, arith}
+use Rattle.std.proofs.Common.{inl, inr, List, Option}
 use Rattle.disk_model.specs.Files.{Files}
 use Rattle.disk_model.specs.declared.disks.PoolDisks.{Ghosts}
 use Rattle.disk_model.specs.Worlds.{World}
 use Rattle.disk_model.specs.Told.{CanLeave}
-use Rattle.disk_model.specs.Marks.{GoesOn}
 use Rattle.disk_model.proofs.GoingOn.{went_same, went_then}
 use Rattle.pool_survey.specs.Remaining.{Remains}
 use Rattle.pool_open.specs.Looking.{OnlyLooks}

@@ -1,5 +1,5 @@
 -- How a pool that stands for cells goes on to stand for others.
-use Rattle.std.proofs.Common.{◌≡◌, ◌≢◌, ◌≤◌, inl, inr, ℕ, ◌==◌, if◌then◌else◌, Bool, Vec, Global, List, [], Option, None, Some, refl, sym, ◌∙◌, ap, subst, IsFalse, IfSome, option_map}
+use Rattle.std.proofs.Common.{◌≡◌, ◌≢◌, ◌≤◌, inl, inr, ℕ, ◌==◌, if◌then◌else◌, Vec, Global, List, [], Option, None, Some, refl, sym, ◌∙◌, ap, subst, IsFalse, IfSome, option_map}
 use Rattle.std.proofs.lemmas.Bool.{cases_eq, eq-eqb, ne_eqb, false≢true}
 use Rattle.disk_model.specs.Worlds.{World}
 use Rattle.volume_layout.specs.Paths.{IsBlockId}

@@ -8,7 +8,7 @@ use Rattle.map_model.specs.Copies.{OneWhole}
 use Rattle.volume_layout.specs.Paths.{IsBlockId}
 use Rattle.map_model.specs.Cells.{Replica, Cell, Cells, absent, final, growing, unsure, waiting}
 use Rattle.map_model.specs.Allows.{Allows}
-use Rattle.map_model.specs.Sound.{Knowledge, matching, Fits}
+use Rattle.map_model.specs.Sound.{Knowledge, Fits}
 use Rattle.map_model.specs.Steps.{Step, delete, failed, done, is_writing, delete_refusal}
 use Rattle.volume_layout.specs.declared.block_file.BlockFile.{BlockFile}
 use Rattle.volume_layout.specs.declared.block_file.BlockFile.TheVariants.{Block, Meta, WritingBlock, WritingMeta}

@@ -1,6 +1,6 @@
 -- What the end of a fresh write leaves, at each of its exits.
-use Rattle.std.proofs.Common.{◌≡◌, inl, inr, ℕ, ◌==◌, if◌then◌else◌, ◌⊎◌, ◌++◌, Bool, true, false, List, [], length, Option, None, Some, refl, sym, ◌∙◌, ap, subst, arith, IsTrue, IfSome, IsSome, option_map, nat_lt, unwrap_or}
-use Rattle.std.proofs.lemmas.Bool.{cases_eq, eq-eqb, ne_eqb, false≢true}
+use Rattle.std.proofs.Common.{◌≡◌, inl, inr, ℕ, ◌==◌, if◌then◌else◌, ◌⊎◌, ◌++◌, Bool, false, List, [], length, Option, None, Some, refl, sym, ◌∙◌, ap, subst, arith, IsTrue, IfSome, IsSome, option_map, nat_lt, unwrap_or}
+use Rattle.std.proofs.lemmas.Bool.{eq-eqb, false≢true}
 use Rattle.std.proofs.lemmas.Bool.Decides.{nat_tests}
 use Rattle.disk_model.specs.Worlds.{World, HasDraft, DraftPlace, draft_at, published}
 use Rattle.disk_model.specs.Told.{IsWorldOf, PicksOne, StandsBeforeOrAfter, StillStands, told_bytes}

@@ -1,5 +1,5 @@
 -- What a tenure answers, and the step that it takes.
-use Rattle.std.specs.Prelude.{ℕ, ◌^◌, ◌⊎◌, Bool, true, false, Option, Result, Ok, Err, IsSomeAnd}
+use Rattle.std.specs.Prelude.{ℕ, ◌^◌, ◌⊎◌, false, Option, Result, Ok, Err, IsSomeAnd}
 use Rattle.disk_model.specs.Files.{Files}
 use Rattle.disk_model.specs.Moments.{AddsOnly}
 use Rattle.map_model.specs.Allows.{AllowsImage}
@@ -68,24 +68,24 @@ delete_reply (Err fault) = delete_fault fault
 abbrev pub AllowedByEither : Cells → Cells → Files → Type 0
 AllowedByEither before after image = AllowsImage before image ⊎ AllowsImage after image
 
--- A step of the cells: the block's cell becomes one that the command, answered so, may leave and of which more is said; and
--- what stood for the cells then stands for the new ones.
+-- A step of the cells: the block's cell becomes one that the command, answered so, may leave and of which more is said;
+-- and what stood for the cells then stands for the new ones.
 pub record StepsTo (id : ℕ) (command : Command) (answer : Reply) (Says : Cell → Type 0) (cells : Cells) (Stood StandsFor : Knowledge → Cells → Type 0) : Type 0 where
   pub cell : Cell
   pub step : Step unlimited (cells id) command answer cell
   pub says : Says cell
   pub stands : (known : Knowledge) → Stood known cells → StandsFor known (with_cell cells id cell)
 
--- A tenure takes a step of the cells; and every image that a crash can leave meanwhile is allowed by the cells before or after,
--- and is sound where each meta matched.
+-- A tenure takes a step of the cells; and every image that a crash can leave meanwhile is allowed by the cells before
+-- or after, and is sound where each meta matched.
 pub record TakesStep (id : ℕ) (command : Command) (answer : Reply) (Says : Cell → Type 0) (cells : Cells)
     (Stood StandsFor : Knowledge → Cells → Type 0) (past since : ℕ → Files → Type 0) : Type 0 where
   pub to : StepsTo id command answer Says cells Stood StandsFor
   pub images : AddsOnly past since (AllowedByEither cells (with_cell cells id to.cell))
   pub sound_images : Stood matching cells → AddsOnly past since IsSound
 
--- A tenure is quiet: what stood for the cells stands for them, and every image that a crash can leave meanwhile is allowed by them,
--- and is sound where each meta matched.
+-- A tenure is quiet: what stood for the cells stands for them, and every image that a crash can leave meanwhile is
+-- allowed by them, and is sound where each meta matched.
 pub record IsQuiet (cells : Cells) (Stood StandsFor : Knowledge → Cells → Type 0) (past since : ℕ → Files → Type 0) : Type 0 where
   pub stands : (known : Knowledge) → Stood known cells → StandsFor known cells
   pub images : AddsOnly past since (AllowsImage cells)

@@ -1,4 +1,5 @@
--- What a tenure's calls do with one block, in every world: the block's files change by a step, those of other blocks stay.
+-- What a tenure's calls do with one block, in every world: the block's files change by a step, those of other blocks
+-- stay.
 use Rattle.std.specs.Prelude.{◌≡◌, ◌≢◌, ◌⊎◌, ℕ, List, take, Option}
 use Rattle.disk_model.specs.Files.{Files}
 use Rattle.disk_model.specs.Worlds.{World}
@@ -37,8 +38,8 @@ RemovesSome vol files before after = (count : ℕ) × (after ≡ remove_all befo
 abbrev pub RemovesAll : ℕ → List BlockFile → View → View → Type 0
 RemovesAll vol files before after = after ≡ remove_all before vol files
 
--- Files of a block are removed from a volume, one after the other: the first few, and all of them where it was done. What a
--- crash can leave meanwhile is what it can leave after the first few.
+-- Files of a block are removed from a volume, one after the other: the first few, and all of them where it was done.
+-- What a crash can leave meanwhile is what it can leave after the first few.
 pub record RemovesFiles (id vol : ℕ) (files : List BlockFile) (done : Type 0) (old new : Option (List World)) (past since : ℕ → Files → Type 0) : Type 0 where
   pub some : Reaches id (RemovesSome vol files) old new
   pub all : done → Reaches id (RemovesAll vol files) old new

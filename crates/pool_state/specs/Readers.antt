@@ -35,8 +35,8 @@ pub record IsMetaOf (known : Knowledge) (id : ℕ) (told : Option (List ℕ)) (r
   pub few : length content < 2 ^ 64
   pub matches : Fits known id content replica
 
--- The block's cell is final; this is the replica's stamp and length, and where the disks tell, these are its bytes and those of its
--- meta file.
+-- The block's cell is final; this is the replica's stamp and length, and where the disks tell, these are its bytes and
+-- those of its meta file.
 pub record Lends (known : Knowledge) (id : ℕ) (told : Option (List World)) (cell : Cell) (stamp len : ℕ)
     (bytes sums : Option (List ℕ)) : Type 0 where
   pub replica : Replica

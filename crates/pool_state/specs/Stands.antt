@@ -1,5 +1,5 @@
 -- When a pool stands for cells.
-use Rattle.std.specs.Prelude.{ℕ, ◌≡◌, ◌≤◌, ◌==◌, if◌then◌else◌, Bool, false, IsFalse, List, [], Option, None, Some, IfSome, option_map}
+use Rattle.std.specs.Prelude.{ℕ, ◌≡◌, ◌≤◌, ◌==◌, if◌then◌else◌, IsFalse, List, [], Option, None, Some, IfSome, option_map}
 use Rattle.disk_model.specs.declared.disks.PoolDisks.{Ghosts}
 use Rattle.disk_model.specs.declared.disks.Draft as drafts
 use Rattle.disk_model.specs.declared.disks.SealedDraft as sealed
@@ -38,8 +38,9 @@ abbrev pub IsNotWaiting : Option Entry → Type 0
 IsNotWaiting None = Unit {0}
 IsNotWaiting (Some entry) = IsNoWait entry.state
 
--- Disks and books stand for cells: each entry says what its block's cell says, and in each world the files of each block stand
--- for its cell and its books; the opening found files of waiting blocks alone. The meta file of each replica is as it is known.
+-- Disks and books stand for cells: each entry says what its block's cell says, and in each world the files of each
+-- block stand for its cell and its books; the opening found files of waiting blocks alone. The meta file of each
+-- replica is as it is known.
 pub record PoolStands (told : Option (List World)) (volumes : ℕ) (entries : ℕ → Option Entry) (found : ℕ → List Leftover) (known : Knowledge) (cells : Cells) : Type 0 where
   pub some_volume : 1 ≤ volumes
   pub agrees : (id : ℕ) → IsBlockId id → Agrees (option_map book_entry (entries id)) (cells id)

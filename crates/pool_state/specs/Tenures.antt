@@ -46,7 +46,8 @@ module _ {D S T R : Type 0} {g : Ghosts D S T R} {d : drafts.Ghosts T S} {s : se
   abbrev pub PairBelongs : Pool D S T R g d s r → SealedPair D S T R → List ℕ → Type 0
   PairBelongs pool pair = PairStands (g.worlds pool.disks) (entry_at pool.map) (pair_of s.place s.bytes pair)
 
-  -- it ends a fresh write of these bytes: the block is that replica, or in doubt, and its meta file is known to be this one
+  -- it ends a fresh write of these bytes: the block is that replica, or in doubt, and its meta file is known to be this
+  -- one
   abbrev pub Finishes : {U E : Type 0} → (id stamp : ℕ) → Result U E → (bytes meta : List ℕ) → Cells → (old new : Pool D S T R g d s r) → Type 0
   Finishes id stamp result bytes meta cells old new =
       TakesLearning (learned id stamp meta) id finish (finish_reply result) (EndsAs result (record { stamp = stamp; bytes = bytes })) cells old new

@@ -18,8 +18,9 @@ pub record WriterBelongs (entries : ℕ → Option Entry) (w : Writer) : Type 0 
   pub meta_number : ℕ
   pub entry : entries w.id ≡ Some (writer_entry w.id w.stamp w.vol w.reserved block_number meta_number)
 
--- The writer is whole and belongs to a pool with these entries, and these bytes were pushed: its entry has its drafts' numbers,
--- the drafts are those of its block and stamp, and where the disks tell, they have the bytes, and nothing yet of the meta file.
+-- The writer is whole and belongs to a pool with these entries, and these bytes were pushed: its entry has its drafts'
+-- numbers, the drafts are those of its block and stamp, and where the disks tell, they have the bytes, and nothing yet
+-- of the meta file.
 pub record WriterStands (told : Option (List World)) (entries : ℕ → Option Entry) (w : Writer) (bytes : List ℕ) : Type 0 where
   pub valid : IsBlockId w.id × IsStamp w.stamp
   pub block_number : ℕ

@@ -31,8 +31,8 @@ LeavesAllowed told state = (image : Files) → CanLeave told image → AllowsIma
 abbrev pub AnyCells : Cells → Type 0
 AnyCells cells = ⊤
 
--- A command was carried out: the session stands for another state, to which the command's step leads, whatever is known of the
--- disks; and whatever a crash leaves meanwhile, the cells before or after allow.
+-- A command was carried out: the session stands for another state, to which the command's step leads, whatever is known
+-- of the disks; and whatever a crash leaves meanwhile, the cells before or after allow.
 pub record CarriesOut (Faulty : ℕ → ℕ → Type 0) (told : Option (List World)) (old : RunState) (before : Mark) (id : ℕ) (command : Command) (reply : Reply) (after : Mark)
     (StandsFor : RunState → Type 0) (Sound SoundNow : Cells → Type 0) (past since : ℕ → Files → Type 0) : Type 0 where
   pub new : RunState
@@ -45,7 +45,8 @@ abbrev pub is_on_block : Line → Bool
 is_on_block Reopen = false
 is_on_block line = is_carried line
 
--- A line was carried out: the session stands for another state, to which the line leads, whatever is known of the disks.
+-- A line was carried out: the session stands for another state, to which the line leads, whatever is known of the
+-- disks.
 pub record LineCarried (Faulty : ℕ → ℕ → Type 0) (told : Option (List World)) (old : RunState) (before : Mark) (line : Line) (reply : Reply) (after : Mark)
     (StandsFor : RunState → Type 0) (Sound SoundNow : Cells → Type 0) (past since : ℕ → Files → Type 0) : Type 0 where
   pub new : RunState

@@ -16,8 +16,8 @@ use Rattle.pool_state.specs.Readers.{LooksForTwo}
 use Rattle.run_model.specs.Replies.{read_reply}
 use Rattle.run_model.specs.State.{Numbers, RunState}
 
--- what is known of the disks: nothing, or that they tell their content, or also that each replica's meta file matched its bytes
--- when they were opened first
+-- what is known of the disks: nothing, or that they tell their content, or also that each replica's meta file matched
+-- its bytes when they were opened first
 pub data Trust : Type 0 where
   any_disks : Trust
   telling_disks : Trust
@@ -31,8 +31,9 @@ pub record GivesOfLength (replica : Replica) (reply : Reply) : Type 0 where
   pub on_length : IsOnLength (length replica.bytes) verdict
   pub reply_is : reply ≡ read_reply replica.stamp bytes verdict
 
--- What a read of a replica replies, with the meta file of its stamp: of disks that tell their content, its stamp and bytes where
--- they match, and else the verdict of just this meta file on them. Where each meta file matched at the beginning, they match.
+-- What a read of a replica replies, with the meta file of its stamp: of disks that tell their content, its stamp and
+-- bytes where they match, and else the verdict of just this meta file on them. Where each meta file matched at the
+-- beginning, they match.
 abbrev pub Gives : Trust → (meta : List ℕ) → Replica → Reply → Type 0
 Gives sound_disks meta replica reply = reply ≡ Data replica.stamp replica.bytes
 Gives telling_disks meta replica reply = reply ≡ read_reply replica.stamp replica.bytes (verdict_of meta replica.bytes (length replica.bytes))
@@ -60,9 +61,9 @@ Says trust metas worn reply = reply ≡ Worn
 abbrev pub DisksFailed : Mark → Mark → Type 0
 DisksFailed before after = Rose before.faults after.faults
 
--- What failed where a command answers `failed`, by the cell that it found and the one that it leaves. `Faulty first last` says
--- that some draft or reader failed whose number is one of these; the writer's numbers are those that the command gave which
--- began it. (Later commands: one more case each.)
+-- What failed where a command answers `failed`, by the cell that it found and the one that it leaves. `Faulty first
+-- last` says that some draft or reader failed whose number is one of these; the writer's numbers are those that the
+-- command gave which began it. (Later commands: one more case each.)
 abbrev pub FailsBy : (Faulty : ℕ → ℕ → Type 0) (before after : Mark) (writer : Numbers) → Cell → Command → Cell → Type 0
 FailsBy Faulty before after writer old (start_write stamp need) new = DisksFailed before after × (new ≡ waiting)
 FailsBy Faulty before after writer old (push piece) new = Faulty writer.first writer.last
@@ -85,13 +86,14 @@ abbrev pub IsContent : Answer → Type 0
 IsContent (content replica) = ⊤
 IsContent answer = ⊥
 
--- the meta file of this replica is one that matches it, and no other is another one
+-- the meta file of this replica becomes one that matches it, and those of other replicas stay
 pub record LearnsOf (old : Metas) (id : ℕ) (replica : Replica) (new : Metas) : Type 0 where
   pub meta : List ℕ
   pub verifies : Verifies meta replica
   pub is : new ≡ with_meta old id replica.stamp meta
 
--- the meta files where an end of a write left this cell: that of the replica which was published, or may have been, is known
+-- the meta files where an end of a write left this cell: that of the replica which was published, or may have been, is
+-- known
 abbrev pub LearnsBy : Metas → ℕ → Cell → Metas → Type 0
 LearnsBy old id (final replica) new = LearnsOf old id replica new
 LearnsBy old id (unsure x (Some replica) cut) new = LearnsOf old id replica new
@@ -109,9 +111,9 @@ MetasAfter command answer old id cell new = new ≡ old
 abbrev pub given : Mark → Mark → Numbers
 given before after = record { first = before.next_number; last = after.next_number }
 
--- One command on a block: the reply says the answer of a step of the cells, a failure has its cause, want of memory leaves
--- files only where a draft's number was given, what is given of a replica was looked for in this command, only the end of a write changes a meta file, and only a command that begins a writer
--- what is known of the writers.
+-- One command on a block: the reply says the answer of a step of the cells, a failure has its cause, want of memory
+-- leaves files only where a draft's number was given, what is given of a replica was looked for in this command, only
+-- the end of a write changes a meta file, and only a command that begins a writer changes what is known of the writers.
 pub record CommandStep (trust : Trust) (Faulty : ℕ → ℕ → Type 0) (old : RunState) (before : Mark) (id : ℕ) (command : Command) (reply : Reply) (new : RunState) (after : Mark) : Type 0 where
   pub answer : Answer
   pub says : Says trust (old.metas id) answer reply

@@ -15,17 +15,18 @@ abbrev pub AllowedByOne : RunState → List Turn → Files → Type 0
 AllowedByOne state [] image = AllowsImage state.cells image
 AllowedByOne state (turn ∷ turns) image = AllowsImage state.cells image ⊎ AllowedByOne turn.state turns image
 
--- Each image that some moment from this one on could have left is allowed by the cells of this state, or by those after one of
--- the lines. `since t image` says that some moment from t on could have left the image.
+-- Each image that some moment from this one on could have left is allowed by the cells of this state, or by those after
+-- one of the lines. `since t image` says that some moment from t on could have left the image.
 abbrev pub AllowedSince : (since : ℕ → Files → Type 0) → ℕ → RunState → List Turn → Type 0
 AllowedSince since t state turns = (image : Files) → since t image → AllowedByOne state turns image
 
--- what some moment from this one on could have left, the cells of this state allow, and it has one whole copy of each block
+-- what some moment from this one on could have left, the cells of this state allow, and it has one whole copy of each
+-- block
 abbrev pub AllowedFrom : (since : ℕ → Files → Type 0) → Mark → RunState → Type 0
 AllowedFrom since mark state = (image : Files) → since mark.moment image → AllowsImage state.cells image × OneWhole image
 
--- What some moment from a line's beginning on could have left: the cells before the line or after it allow it, and it has one
--- whole copy of each block; or some moment from the line's end on could have left it.
+-- What some moment from a line's beginning on could have left: the cells before the line or after it allow it, and it
+-- has one whole copy of each block; or some moment from the line's end on could have left it.
 abbrev pub AllowedByLine : (since : ℕ → Files → Type 0) → Mark → RunState → Turn → Type 0
 AllowedByLine since mark state turn = (image : Files) → since mark.moment image →
     (AllowedByEither state.cells turn.state.cells image × OneWhole image) ⊎ since turn.mark.moment image
@@ -35,8 +36,8 @@ abbrev pub AllowedByEach : (since : ℕ → Files → Type 0) → Mark → RunSt
 AllowedByEach since mark state [] = AllowedFrom since mark state
 AllowedByEach since mark state (turn ∷ turns) = AllowedByLine since mark state turn × AllowedByEach since turn.mark turn.state turns
 
--- What a crash can leave while one line is carried out: the cells before it or after it allow it, and of each block one whole
--- copy stands at most. `Sound cells` says that the pool stands for the cells with meta files that match.
+-- What a crash can leave while one line is carried out: the cells before it or after it allow it, and of each block one
+-- whole copy stands at most. `Sound cells` says that the pool stands for the cells with meta files that match.
 pub record CrashSafe (before after : Cells) (Sound SoundNow : Cells → Type 0) (past since : ℕ → Files → Type 0) : Type 0 where
   pub images : AddsOnly past since (AllowedByEither before after)
   pub sound : Sound before → SoundNow after

@@ -12,8 +12,8 @@ use Rattle.disk_model.specs.Marks.{Mark, IsLater}
 use Rattle.run_model.specs.State.{RunState, Turn}
 use Rattle.run_model.specs.Commands.{Trust, any_disks, telling_disks, sound_disks, CommandStep}
 
--- what closing the pool and opening it again leaves of its cells: no writer is open, and where the disks tell, each cell is as it
--- was found
+-- what closing the pool and opening it again leaves of its cells: no writer is open, and where the disks tell, each
+-- cell is as it was found
 abbrev pub CellsReopened : Trust → Cells → Cells → Type 0
 CellsReopened any_disks old new = (id : ℕ) → IsBlockId id → IsOpened (new id)
 CellsReopened telling_disks old new = (id : ℕ) → IsBlockId id → Reopened (old id) (new id)

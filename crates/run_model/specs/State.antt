@@ -11,8 +11,8 @@ pub record Numbers : Type 0 where
   pub first : ℕ
   pub last : ℕ
 
--- What a run knows: the cells of the pool, the meta files of its replicas, and of each block that grows the numbers that the
--- command which began its writer gave.
+-- What a run knows: the cells of the pool, the meta files of its replicas, and of each block that grows the numbers
+-- that the command which began its writer gave.
 pub record RunState : Type 0 where
   pub cells : Cells
   pub metas : Metas

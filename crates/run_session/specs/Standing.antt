@@ -31,7 +31,8 @@ NotGrowing (growing stamp base bytes left) = ⊥
 NotGrowing (unsure x y cut) = ⊤
 NotGrowing waiting = ⊤
 
--- an open writer of a block: it belongs to the pool, the cell grows as it does, and its drafts' numbers are among those noted
+-- an open writer of a block: it belongs to the pool, the cell grows as it does, and its drafts' numbers are among those
+-- noted
 pub record OpenWriter (told : Option (List World)) (entries : ℕ → Option Entry) (id : ℕ) (cell : Cell) (numbers : Numbers) (w : Writer) : Type 0 where
   pub of : w.id ≡ id
   pub bytes : List ℕ

@@ -31,6 +31,6 @@ pub returns-clause-runs : goal.returns-clause-runs
 returns-clause-runs g c =
     let opens = c.in-Ok.ensures.opened in
     let standing = stands_first _ opens (λ id. ap (option_map (writer_of g.D.Draft.Draft.place g.D.Draft.Draft.bytes)) (c.new.ensures id)) in
-    runs_so g.D.PoolDisks _ _ (g.met.D.PoolDisks.only_now c.args.disks) c.in-Ok.pool.disks _ _ _ _ _ _ c.close_pool.ensures c.in-Ok.ensures.goes_on opens (g.met.D.PoolDisks.only_now c.in-Ok.pool.disks)
+    runs_so g.D.PoolDisks _ _ (g.met.D.PoolDisks.only_now c.args.disks) c.in-Ok.pool.disks _ _ _ _ _ _ c.close_pool.ensures c.in-Ok.ensures.goes_on opens
     (c.play_lines-ending.ensures.played (first_of opens.cells opens.metas) standing)
     c.play_lines-ending.ensures.of_lines (λ image holds. c.in-Ok.ensures.one_meta image holds refl) c.in-Ok.ensures.images c.play_lines-ending.ensures.two_metas
