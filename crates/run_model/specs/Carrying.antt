@@ -1,5 +1,5 @@
 -- That a line was carried out, by a session that stands for the state of a run.
-use Rattle.std.specs.Prelude.{ℕ, ◌-◌, Bool, false, List, Option, ⊤, IsSome}
+use Rattle.std.specs.Prelude.{ℕ, Bool, false, List, Option, ⊤, IsSome}
 use Rattle.disk_model.specs.Worlds.{World}
 use Rattle.disk_model.specs.Files.{Files}
 use Rattle.disk_model.specs.Told.{CanLeave}

@@ -1,5 +1,5 @@
 -- How a session goes on to stand for another state.
-use Rattle.std.proofs.Common.{◌≡◌, ◌≤◌, arith, ◌≢◌, ◌-◌, ◌<◌, inl, inr, ℕ, ◌==◌, ◌&&◌, if◌then◌else◌, true, false, List, Option, None, Some, refl, sym, ◌∙◌, ap, subst, IsSome, option_map, IfSome}
+use Rattle.std.proofs.Common.{◌≡◌, ◌≤◌, arith, ◌≢◌, ◌-◌, ◌<◌, inl, inr, ℕ, ◌==◌, ◌&&◌, if◌then◌else◌, false, List, Option, None, Some, refl, sym, ◌∙◌, ap, subst, IsSome, option_map, IfSome}
 use Rattle.std.specs.Prelude.{MatchOption, Bool}
 use Rattle.std.proofs.lemmas.Option.{same_Some}
 use Rattle.std.proofs.lemmas.Bool.{cases_eq, eq-eqb, ne_eqb}

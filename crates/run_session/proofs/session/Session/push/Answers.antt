@@ -1,4 +1,4 @@
-use Rattle.std.proofs.Common.{true, ◌≡◌, ◌-◌, ◌++◌, inl, inr, Some, None, Err, refl, sym, ◌∙◌, ap, subst, arith, option_map}
+use Rattle.std.proofs.Common.{◌≡◌, ◌-◌, ◌++◌, inl, inr, Some, None, Err, refl, sym, ◌∙◌, ap, subst, arith, option_map}
 use Rattle.std.specs.Prelude.{MatchOption, IsSome}
 use Rattle.std.proofs.lemmas.Option.{same_Some}
 use Rattle.map_model.specs.Cells.{growing}
