@@ -29,7 +29,7 @@ impl<D: PoolDisks> Session<D> {
             Line::Write { id, stamp, hex } => self.write(alloc, id, stamp, hex.as_slice()),
             Line::Read { id } => self.read(alloc, id),
             Line::Delete { id } => self.delete(id),
-            _ => Reply::Done,
+            _ => unreachable!(),
         }
     }
 }

@@ -24,7 +24,7 @@ pub fn verdict_reply_of(verdict: Verdict) -> Reply
     ensures { (stamp : ℕ) (bytes : List ℕ) → result ≡ read_reply stamp bytes verdict }
 {
     match verdict {
-        Verdict::Whole => Reply::Done,
+        Verdict::Whole => unreachable!(),
         Verdict::BadChunk {
             chunk,
             stored,
