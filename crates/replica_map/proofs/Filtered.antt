@@ -10,6 +10,7 @@ use Rattle.std.proofs.lemmas.List.Sums.{fails_before_first}
 use Rattle.std.specs.List.{position_or_len}
 use Rattle.replica_map.specs.declared.leftover.Leftover.{Leftover}
 use Rattle.replica_map.specs.Leftovers.{is_leftover_of}
+use Rattle.replica_map.specs.Books.{Books, IsFirstOf}
 
 -- the leftover is the block's
 abbrev pub is_of : ℕ → Leftover → Bool
@@ -75,3 +76,21 @@ first_is id vol xs (Some i) e =
           subst (λ o. IsSomeAnd o (λ leftover. leftover.id ≡ id)) (sym is) (eqb-true x.id id (and_parts _ _ passes).0))
       | inr (past, is) ↦ absurd (place_cases (is_leftover_of id vol) xs i (nat_lt (position_or_len (is_leftover_of id vol) xs) (length xs)) refl (sym e) past)
     ]
+
+-- the first leftover of a block, of those of all volumes
+first_at : (id : ℕ) (books : Books) (i : ℕ) → position (is_leftover_of id None) books.leftovers ≡ Some i → IsFirstOf id i books
+first_at id books i at =
+    elim ((slice_get_cases books.leftovers i).1) [
+      | inl (x, w, is, here) ↦ record {
+        leftover = x;
+        at = is;
+        own = eqb-true x.id id (and_parts _ _ (ap (is_leftover_of id None) (sym here) ∙ (position-Some (is_leftover_of id None) books.leftovers i x at).1)).0;
+        before = filter_first id books.leftovers i x is at;
+      }
+      | inr (past, is) ↦ absurd (place_cases (is_leftover_of id None) books.leftovers i (nat_lt (position_or_len (is_leftover_of id None) books.leftovers) (length books.leftovers)) refl at past)
+    ]
+
+pub first_of : (id : ℕ) (books : Books) (result : Option ℕ) (vol : Option ℕ) → vol ≡ None → result ≡ position (is_leftover_of id vol) books.leftovers →
+    IfSome result (λ i. IsFirstOf id i books)
+first_of id books None vol any is = tt
+first_of id books (Some i) vol any is = first_at id books i (ap (λ v. position (is_leftover_of id v) books.leftovers) (sym any) ∙ sym is)

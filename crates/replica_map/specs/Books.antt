@@ -1,5 +1,5 @@
 -- What a replica map holds, as its callers see it.
-use Rattle.std.specs.Prelude.{ℕ, ◌≡◌, ◌+◌, ◌==◌, ◌≢◌, if◌then◌else◌, List, [], ◌∷◌, ◌++◌, find, filter, position, sum_by, Option, Some, None, ◌⊎◌, option_map, option_and_then}
+use Rattle.std.specs.Prelude.{ℕ, ◌≡◌, ◌+◌, ◌==◌, ◌≢◌, if◌then◌else◌, List, [], ◌∷◌, ◌++◌, find, filter, position, slice_get, remove, sum_by, count_by, Option, Some, None, ◌⊎◌, option_map, option_and_then}
 use Rattle.volume_layout.specs.Places.{IsBefore, block_place}
 use Rattle.volume_layout.specs.declared.place.Place.{Place}
 use Rattle.replica_map.specs.declared.entry.Entry.{Entry}
@@ -8,7 +8,7 @@ use Rattle.replica_map.specs.declared.entry.Grown.{Grown}
 use Rattle.replica_map.specs.declared.row.Row.{Row}
 use Rattle.replica_map.specs.declared.leftover.Leftover.{Leftover}
 use Rattle.replica_map.specs.declared.ticket.Ticket.{Ticket}
-use Rattle.replica_map.specs.Counting.{row_use, leftover_use, ticket_use}
+use Rattle.replica_map.specs.Counting.{is_writing, row_use, leftover_use, ticket_use}
 use Rattle.replica_map.specs.Leftovers.{is_leftover_of}
 
 -- the books: entries with what is kept beside them and tickets, both in ascending id, leftovers in listing order,
@@ -43,6 +43,10 @@ leftovers_of books id = filter (λ leftover. leftover.id == id) books.leftovers
 -- the counted use of a volume, in bytes
 abbrev pub used : ℕ → Books → ℕ
 used vol books = sum_by (row_use vol) books.rows + sum_by (leftover_use vol) books.leftovers + sum_by (ticket_use vol) books.tickets
+
+-- how many entries have an open writer
+abbrev pub writers : Books → ℕ
+writers books = count_by (λ row. is_writing row.entry.state) books.rows
 
 -- the entry is of a whole replica on the volume, past a place
 pub record IsLater (vol : ℕ) (after : Place) (entry : Entry) : Type 0 where
@@ -90,3 +94,10 @@ KeepsOthers leftover old new = (id : ℕ) → leftover.id ≢ id → leftovers_o
 abbrev pub DropsFirst : ℕ → Leftover → Books → Books → Type 0
 DropsFirst i leftover old new = (id : ℕ) → position (is_leftover_of id None) old.leftovers ≡ Some i →
     leftovers_of old id ≡ leftover ∷ leftovers_of new id
+
+-- the leftover at i is the first of a block: the block's others are those that are left without it
+pub record IsFirstOf (id i : ℕ) (books : Books) : Type 0 where
+  pub leftover : Leftover
+  pub at : slice_get books.leftovers i ≡ Some leftover
+  pub own : leftover.id ≡ id
+  pub before : leftovers_of books id ≡ leftover ∷ leftovers_of (record books { leftovers = remove books.leftovers i }) id

@@ -26,6 +26,10 @@ is_writing Writing = true
 is_writing Unsure = false
 is_writing Waiting = false
 
+-- 1 of an entry in this state that has one
+abbrev pub writes : State → ℕ
+writes state = if is_writing state then 1 else 0
+
 -- the length of the base that is kept, or 0
 abbrev pub len_of_base : Option Base → ℕ
 len_of_base None = 0

@@ -1,10 +1,13 @@
 //! The books of a pool.
-ghost use Rattle.std.specs.Prelude.{◌≡◌, ◌≢◌, ℕ, ◌==◌, if◌then◌else◌, ◌+◌, ◌<◌, ◌≤◌, ◌^◌, ◌∷◌, ◌++◌, [], length, slice_get, remove, position, count_by, None, Some, OnOk, OnErr, IsOk, IfOk, IsSome, IfSome, IsSomeAnd, MatchOption, option_map};
+ghost use Rattle.std.specs.Prelude.{◌≡◌, ℕ, if◌then◌else◌, ◌+◌, ◌<◌, ◌≤◌, ◌^◌, ◌∷◌, ◌++◌, [], length, slice_get, remove, position, sum_by, slice_index, None, Some, OnOk, OnErr, IsOk, IfOk, IsSome, IfSome, IsSomeAnd, MatchOption, option_map};
 ghost use Rattle.replica_map.specs.Rising.{Rises};
-ghost use Rattle.replica_map.specs.Counting.{is_writing};
+ghost use Rattle.replica_map.specs.Counting.{writes, leftover_use};
+ghost use Rattle.replica_map.specs.Kept.{leftover_excess};
+ghost use Rattle.replica_map.specs.declared.entry.Entry.{Entry};
+ghost use Rattle.volume_layout.specs.Paths.{IsBlockId};
 ghost use Rattle.replica_map.specs.Leftovers.{is_leftover_of};
 ghost use Rattle.replica_map.specs.declared.leftover.Leftover.{Leftover};
-ghost use Rattle.replica_map.specs.Books.{row_at, entry_at, grown_at, ticket_at, leftovers_of, used, Keeps, Puts, ListsLeftover, KeepsOthers, DropsFirst, IsNext, HasNoLater, SameRows, SameLeftovers};
+ghost use Rattle.replica_map.specs.Books.{row_at, entry_at, grown_at, ticket_at, leftovers_of, used, writers, Keeps, Puts, ListsLeftover, KeepsOthers, DropsFirst, IsFirstOf, IsNext, HasNoLater, SameRows, SameLeftovers};
 
 use crate::entry::{Entry, Grown};
 use crate::leftover::Leftover;
@@ -12,6 +15,7 @@ use crate::row::{Row, place_key};
 use crate::sorted::{Sorted, push_within};
 use crate::tally::Tally;
 use crate::ticket::Ticket;
+use crate::use_table::UseTable;
 use std::alloc::{AllocError, Global};
 use std::marker::Model;
 use volume_layout::{BlockId, Place};
@@ -61,21 +65,27 @@ impl ReplicaMap {
         }
     }
 
-    /// Books with these rows alone, whose ids rise. The vector is kept as it is, and the places of the Finalised entries are
-    /// sorted once. `AllocError` where the places have no memory, or there are more than 2^60 rows.
-    pub fn from_rows(alloc: Global, rows: Vec<Row>) -> Result<ReplicaMap, AllocError>
+    /// Books with these rows, whose ids rise, and these leftovers. Both vectors are kept as they are, and the places of the
+    /// Finalised entries are sorted once. `AllocError` where the places have no memory, or there are more than 2^60 rows or
+    /// leftovers.
+    pub fn from_rows(
+        alloc: Global,
+        rows: Vec<Row>,
+        leftovers: Vec<Leftover>,
+    ) -> Result<ReplicaMap, AllocError>
         requires { Rises (λ row. row.entry.id) rows.items }
         ensures rows { IfOk result (λ map. map.rows ≡ rows.items) }
-        ensures leftovers { IfOk result (λ map. map.leftovers ≡ []) }
+        ensures leftovers { IfOk result (λ map. map.leftovers ≡ leftovers.items) }
         ensures tickets { IfOk result (λ map. map.tickets ≡ []) }
     {
-        if rows.len() > MOST {
+        if rows.len() > MOST || leftovers.len() > MOST {
             return Err(AllocError);
         }
-        let tally = Tally::of_rows(alloc, &rows)?;
+        let mut tally = Tally::of_rows(alloc, &rows)?;
+        count_leftovers(&mut tally.uses, &leftovers);
         Ok(ReplicaMap {
             rows: Sorted::from_rising(rows),
-            leftovers: Vec::new(alloc),
+            leftovers,
             tickets: Sorted::make(alloc),
             tally,
         })
@@ -103,6 +113,7 @@ impl ReplicaMap {
     pub fn find(&self, id: BlockId) -> Option<Entry>
         ensures value { result ≡ entry_at self.now id }
         ensures own { IfSome result (λ entry. entry.id ≡ id) }
+        ensures valid { IsBlockId id }
     {
         match self.row(id) {
             None => None,
@@ -122,7 +133,8 @@ impl ReplicaMap {
 
     /// How many entries are Writing.
     pub fn writing_count(&self) -> usize
-        ensures { result ≡ count_by (λ row. is_writing row.entry.state) self.now.rows }
+        ensures count { result ≡ writers self.now }
+        ensures few { writers self.now ≤ 2 ^ 60 }
     {
         self.tally.writing
     }
@@ -177,6 +189,7 @@ impl ReplicaMap {
     pub fn insert(&mut self, entry: Entry) -> Result<(), AllocError>
         requires absent { entry_at self.old entry.id ≡ None }
         ensures entries { OnOk result (Puts entry_at entry.id (Some entry) self.old self.new) }
+        ensures writing { OnOk result (writers self.new ≡ writers self.old + writes entry.state) }
         ensures grown { OnOk result (Puts grown_at entry.id None self.old self.new) }
         ensures err { OnErr result (self.new.rows ≡ self.old.rows) }
         ensures leftovers { SameLeftovers self.old self.new }
@@ -194,6 +207,8 @@ impl ReplicaMap {
         requires present { IsSome (entry_at self.old entry.id) }
         ensures entries { Puts entry_at entry.id (Some entry) self.old self.new }
         ensures grown { Keeps grown_at self.old self.new }
+        ensures writing { (old : Entry) → entry_at self.old entry.id ≡ Some old →
+            writers self.new + writes old.state ≡ writers self.old + writes entry.state }
         ensures leftovers { SameLeftovers self.old self.new }
         ensures tickets { self.new.tickets ≡ self.old.tickets }
         ensures entry_room { self.new.entry_room ≡ self.old.entry_room }
@@ -213,6 +228,7 @@ impl ReplicaMap {
         requires present { IsSome (entry_at self.old id) }
         ensures entries { Keeps entry_at self.old self.new }
         ensures grown { Puts grown_at id grown self.old self.new }
+        ensures writing { writers self.new ≡ writers self.old }
         ensures leftovers { SameLeftovers self.old self.new }
         ensures tickets { self.new.tickets ≡ self.old.tickets }
         ensures entry_room { self.new.entry_room ≡ self.old.entry_room }
@@ -232,6 +248,8 @@ impl ReplicaMap {
         requires present { IsSome (entry_at self.old id) }
         ensures entries { Puts entry_at id None self.old self.new }
         ensures grown { Puts grown_at id None self.old self.new }
+        ensures writing { (old : Entry) → entry_at self.old id ≡ Some old →
+            writers self.new + writes old.state ≡ writers self.old }
         ensures leftovers { SameLeftovers self.old self.new }
         ensures tickets { self.new.tickets ≡ self.old.tickets }
         ensures entry_room { self.new.entry_room ≡ self.old.entry_room + 1 }
@@ -279,6 +297,7 @@ impl ReplicaMap {
     pub fn first_leftover(&self, id: BlockId, vol: Option<u8>) -> Option<usize>
         ensures value { result ≡ position (is_leftover_of id vol) self.now.leftovers }
         ensures own { IfSome result (λ i. IsSomeAnd (slice_get self.now.leftovers i) (λ leftover. leftover.id ≡ id)) }
+        ensures first { vol ≡ None → IfSome result (λ i. IsFirstOf id i self.now) }
         ensures none { vol ≡ None → result ≡ None → leftovers_of self.now id ≡ [] }
     {
         position_of(self.leftovers.as_slice(), id, vol)
@@ -390,6 +409,7 @@ impl ReplicaMap {
     fn row(&self, id: BlockId) -> Option<Row>
         ensures value { result ≡ row_at self.now id }
         ensures own { IfSome result (λ row. row.entry.id ≡ id) }
+        ensures valid { IsBlockId id }
     {
         self.rows.find(u128::from(id.get()))
     }
@@ -399,6 +419,7 @@ impl ReplicaMap {
         requires room { 0 < self.old.entry_room }
         requires absent { row_at self.old row.now.entry.id ≡ None }
         ensures rows { Puts row_at row.now.entry.id (Some row.now) self.old self.new }
+        ensures writing { writers self.new ≡ writers self.old + writes row.now.entry.state }
         ensures leftovers { SameLeftovers self.old self.new }
         ensures tickets { self.new.tickets ≡ self.old.tickets }
         ensures entry_room { self.old.entry_room ≡ self.new.entry_room + 1 }
@@ -413,6 +434,7 @@ impl ReplicaMap {
     fn swap_row(&mut self, row: &Row, next: &Row)
         requires there { row_at self.old next.now.entry.id ≡ Some row.now }
         ensures rows { Puts row_at next.now.entry.id (Some next.now) self.old self.new }
+        ensures writing { writers self.new + writes row.now.entry.state ≡ writers self.old + writes next.now.entry.state }
         ensures leftovers { SameLeftovers self.old self.new }
         ensures tickets { self.new.tickets ≡ self.old.tickets }
         ensures entry_room { self.new.entry_room ≡ self.old.entry_room }
@@ -429,6 +451,7 @@ impl ReplicaMap {
     fn drop_row(&mut self, id: BlockId, row: &Row)
         requires there { row_at self.old id ≡ Some row.now }
         ensures rows { Puts row_at id None self.old self.new }
+        ensures writing { writers self.new + writes row.now.entry.state ≡ writers self.old }
         ensures leftovers { SameLeftovers self.old self.new }
         ensures tickets { self.new.tickets ≡ self.old.tickets }
         ensures entry_room { self.new.entry_room ≡ self.old.entry_room + 1 }
@@ -447,4 +470,17 @@ fn position_of(leftovers: &[Leftover], id: BlockId, vol: Option<u8>) -> Option<u
     leftovers
         .iter()
         .position(|leftover| leftover.is_leftover_of(id, vol))
+}
+
+/// Counts leftovers.
+fn count_leftovers(uses: &mut UseTable, leftovers: &[Leftover])
+    requires few { length leftovers.now ≤ 2 ^ 60 }
+    requires fits { (vol : ℕ) → slice_index uses.old.sums vol < 2 ^ 127 }
+    ensures uses { (vol : ℕ) → slice_index uses.new.sums vol ≡
+        slice_index uses.old.sums vol + sum_by (leftover_use vol) leftovers.now }
+    ensures ranges { sum_by leftover_excess leftovers.now ≡ 0 }
+{
+    for leftover in leftovers {
+        uses.add(leftover.vol, leftover.counted_len());
+    }
 }

@@ -1,5 +1,5 @@
 // A vector whose keys rise.
-ghost use Rattle.std.specs.Prelude.{◌≡◌, ℕ, ◌+◌, ◌<◌, ◌≤◌, ◌==◌, if◌then◌else◌, List, [], ◌∷◌, ◌++◌, length, vec_len, vec_capacity, slice_get, insert, find, sum_by, Option, Some, None, IsSome, IsOk, OnOk, MatchOption};
+ghost use Rattle.std.specs.Prelude.{◌≡◌, ℕ, ◌+◌, ◌<◌, ◌≤◌, ◌==◌, [], ◌∷◌, ◌++◌, length, vec_len, vec_capacity, slice_get, insert, find, sum_by, Option, Some, None, IsSome, IsOk, OnOk};
 ghost use Rattle.replica_map.specs.Rising.{Rises, IsPlace, IsFirstFrom, PutsItem, has_key};
 
 use crate::keyed::Keyed;

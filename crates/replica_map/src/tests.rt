@@ -148,7 +148,7 @@ fn books_are_made_of_rows(rt: HostRuntime) -> Result<(), Fail> {
         row(&rt, 8197, stamp, 1, State::Finalised, 7),
         row(&rt, 65541, stamp, 2, State::Waiting, 99),
     ]?;
-    let map = ReplicaMap::from_rows(rt.alloc(), rows.clone()?)?;
+    let map = ReplicaMap::from_rows(rt.alloc(), rows.clone()?, Vec::new(rt.alloc()))?;
     expect_rows(&rt, &map, rows.as_slice());
     assert_eq!(rt; map.writing_count(), 1);
     assert_eq!(rt; [map.used(1), map.used(2), map.used(3)], [27, 55, 0]);
