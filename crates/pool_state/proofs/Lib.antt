@@ -1,7 +1,10 @@
 pub mod Reaching
+pub mod Room
 pub mod Changing
 pub mod Whole
 pub mod Showing
+pub mod Entries
+pub mod Listing
 pub mod Starting
 pub mod Ends
 pub mod Removals

@@ -2,25 +2,14 @@
 use Rattle.std.proofs.Common.{◌≡◌, ◌⊎◌, ◌<◌, ◌≤◌, get_or, inl, inr, ℕ, suc, List, [], ◌∷◌, ◌++◌, length, take, Option, refl, sym, ◌∙◌, ap, subst}
 use Rattle.std.proofs.Math.Seq.{take-suc}
 use Rattle.std.proofs.lemmas.List.{take_all}
-use Rattle.std.proofs.lemmas.Bool.{cases_eq, eq-eqb, ne_eqb}
 use Rattle.disk_model.specs.Files.{Files}
 use Rattle.disk_model.specs.Worlds.{World}
 use Rattle.disk_model.specs.Told.{CanLeave}
 use Rattle.volume_layout.specs.declared.block_file.BlockFile.{BlockFile}
 use Rattle.map_model.specs.Slots.{View, remove_in}
 use Rattle.map_model.specs.Tenures.{Fails, remove_all}
-use Rattle.pool_state.specs.declared.leftover.Leftover.{Leftover}
-use Rattle.pool_state.specs.Books.{book_leftover, of_block}
 use Rattle.pool_state.specs.Reaching.{ComesFrom, Reaches, Stays, Then, RemovesSome, RemovesAll, RemovesFiles}
 use Rattle.pool_state.proofs.Reaching.{reaches_same, reaches_then}
-
--- the files of a block in two lists
-pub of_block_append : (id : ℕ) (front back : List Leftover) → of_block id (front ++ back) ≡ of_block id front ++ of_block id back
-of_block_append id [] back = refl
-of_block_append id (leftover ∷ front) back = elim (cases_eq leftover.id id) [
-  | inl same ↦ rw (eq-eqb leftover.id id same) (ap (λ rest. book_leftover leftover ∷ rest) (of_block_append id front back))
-  | inr apart ↦ rw (ne_eqb leftover.id id apart) (of_block_append id front back)
-]
 
 -- a step that another one is
 pub reaches_as : (id : ℕ) (one two : View → View → Type 0) (old new : Option (List World)) → Reaches id one old new →
@@ -100,11 +89,3 @@ files_up_to files at file within is = take-suc files at file within ∙ ap (λ f
 -- and all of them
 pub files_all : (files : List BlockFile) (at : ℕ) → length files ≤ at → take at files ≡ files
 files_all files at past = take_all at files past
-
--- the files of a block that the opening found, up to the first one
-pub none_up_to : (id : ℕ) (files : List Leftover) (at : ℕ) (leftover : Leftover) → at < length files → leftover ≡ get_or files at leftover → (leftover.id ≡ id → ⊥) →
-    of_block id (take at files) ≡ [] → of_block id (take (suc at) files) ≡ []
-none_up_to id files at leftover within is apart none =
-    ap (of_block id) (take-suc files at leftover within) ∙ of_block_append id (take at files) (get_or files at leftover ∷ [])
-    ∙ ap (λ front. front ++ of_block id (get_or files at leftover ∷ [])) none
-    ∙ subst (λ (l : Leftover). of_block id (l ∷ []) ≡ []) is (rw (ne_eqb leftover.id id apart) refl)

@@ -1,5 +1,5 @@
 -- What a crash can leave while a tenure changes one block.
-use Rattle.std.proofs.Common.{◌≡◌, ◌⊎◌, inl, inr, ℕ, Option, List, [], refl, sym, subst}
+use Rattle.std.proofs.Common.{◌≡◌, ◌⊎◌, inl, inr, ℕ, Option, List, refl, sym, subst}
 use Rattle.std.proofs.lemmas.Bool.{cases_eq, eq-eqb, ne_eqb}
 use Rattle.disk_model.specs.Files.{Files}
 use Rattle.disk_model.specs.Worlds.{World}
@@ -12,16 +12,15 @@ use Rattle.map_model.specs.Copies.{Spot, BlockFiles, block_files, IsCopy, IsAlon
 use Rattle.map_model.specs.Allows.{Allows, AllowsFiles, AllowsImage}
 use Rattle.map_model.specs.Sound.{Knowledge, nothing, matching, Fits, HasSoundCopies, IsSoundBy}
 use Rattle.map_model.specs.Slots.{View, files_in, view_of}
-use Rattle.map_model.specs.Stands.{Leftover, BlockBooks, BlockStands}
+use Rattle.map_model.specs.Stands.{BlockBooks, BlockStands}
 use Rattle.map_model.specs.Steps.{Command, Reply, Step}
 use Rattle.map_model.proofs.Bridge.{image_files}
 use Rattle.map_model.proofs.LawProofs.{block_allows}
 use Rattle.map_model.proofs.Soundness.{block_is_sound}
-use Rattle.pool_state.specs.declared.entry.Entry.{Entry}
-use Rattle.pool_state.specs.Books.{block_books}
 use Rattle.pool_state.specs.Reaching.{ComesFrom, Reaches}
 use Rattle.pool_state.specs.Answers.{unlimited, AllowedByEither, TakesStep, IsQuiet}
-use Rattle.pool_state.specs.Stands.{with_cell, IsNotWaiting, PoolStands}
+use Rattle.pool_state.specs.Stands.{with_cell, PoolStands}
+use Rattle.pool_state.proofs.Changing.{Leads}
 use Rattle.pool_state.proofs.Whole.{IsWholeIn, block_whole}
 
 -- an image is allowed by the cells before or after, its copies match, and each is whole
@@ -56,42 +55,44 @@ adds_join first second t image s = elim (second t image s) [
   | inr now ↦ inr now
 ]
 
-module _ {told : Option (List World)} {volumes : ℕ} {entries : ℕ → Option Entry} {found : ℕ → List Leftover} {known : Knowledge} {cells : Cells}
-    (stands : PoolStands told volumes entries found known cells) (id : ℕ) (valid : IsBlockId id) where
+module _ {told : Option (List World)} {volumes : ℕ} {books : ℕ → BlockBooks} {known : Knowledge} {cells : Cells}
+    (stands : PoolStands told volumes books known cells) (id : ℕ) (valid : IsBlockId id) where
   -- At a moment the block's files stand for some cell, a copy of it is whole, and what the cell allows is allowed by the cell
   -- before or by this one.
   pub record At (after : View) (cell : Cell) : Type 0 where
-    pub books : BlockBooks
+    pub books_then : BlockBooks
     pub mid : Cell
-    pub stood : BlockStands (Fits known id) after books mid
+    pub stood : BlockStands (Fits known id) after books_then mid
     pub whole : IsWholeIn after
     pub allows : (read : Option Replica) → Allows mid read → Allows (cells id) read ⊎ Allows cell read
 
   abbrev pub Passes : (View → View → Type 0) → Cell → Type 0
-  Passes step cell = (before after : View) → step before after → BlockStands (Fits known id) before (block_books (entries id) (found id)) (cells id) → At after cell
+  Passes step cell = (before after : View) → step before after → BlockStands (Fits known id) before (books id) (cells id) → At after cell
 
-  -- by an entry and the files that the opening found
-  pub at_books : (after : View) (cell mid : Cell) (entry : Option Entry) (left : List Leftover) → (IsNotWaiting entry → left ≡ []) →
-      BlockStands (Fits known id) after (block_books entry left) mid → ((read : Option Replica) → Allows mid read → Allows (cells id) read ⊎ Allows cell read) → At after cell
-  at_books after cell mid entry left clean stood allows = record {
-    books = block_books entry left;
+  -- by the books and the cell that a step leads to
+  pub passes : {step : View → View → Type 0} {now : BlockBooks} {mid cell : Cell} → Leads known id volumes step (books id) (cells id) now mid →
+      ((read : Option Replica) → Allows mid read → Allows (cells id) read ⊎ Allows cell read) → Passes step cell
+  passes {now = now} {mid = mid} leads allows before after stepped was = record {
+    books_then = now;
     mid = mid;
-    stood = stood;
-    whole = block_whole (Fits known id) after entry left mid stood clean;
+    stood = leads.own before after stepped was;
+    whole = block_whole (Fits known id) after now mid leads.fit (leads.own before after stepped was);
     allows = allows;
   }
 
   -- at the end they stand for the cell itself
-  pub passes_end : (step : View → View → Type 0) (cell : Cell) (entry : Option Entry) (left : List Leftover) → (IsNotWaiting entry → left ≡ []) →
-      ((before after : View) → step before after → BlockStands (Fits known id) before (block_books (entries id) (found id)) (cells id) → BlockStands (Fits known id) after (block_books entry left) cell) →
-      Passes step cell
-  passes_end step cell entry left clean own before after stepped was = at_books after cell cell entry left clean (own before after stepped was) (λ read allows. inr allows)
+  pub passes_end : {step : View → View → Type 0} {now : BlockBooks} {cell : Cell} → Leads known id volumes step (books id) (cells id) now cell → Passes step cell
+  passes_end leads = passes leads (λ read allows. inr allows)
 
   -- where nothing changes
+  pub stays : Leads known id volumes (λ before after. after ≡ before) (books id) (cells id) (books id) (cells id)
+  stays = record {
+    fit = stands.fit id valid;
+    own = λ before after stepped was. subst (λ (v : View). BlockStands (Fits known id) v (books id) (cells id)) (sym stepped) was;
+  }
+
   pub stays_passes : Passes (λ before after. after ≡ before) (cells id)
-  stays_passes before after stepped was = at_books after (cells id) (cells id) (entries id) (found id) (stands.clean id valid)
-      (subst (λ (v : View). BlockStands (Fits known id) v (block_books (entries id) (found id)) (cells id)) (sym stepped) was)
-      (λ read allows. inl allows)
+  stays_passes = passes_end stays
 
   module _ (step : View → View → Type 0) (told' : Option (List World)) (reaches : Reaches id step told told') where
     came : (world : World) → IsWorldOf told' world → ComesFrom id step told world
@@ -106,12 +107,11 @@ module _ {told : Option (List World)} {volumes : ℕ} {entries : ℕ → Option 
     others_allow world is other valid_other apart =
         let from : ComesFrom id step told world = came world is in
         let own = stands.blocks from.was from.is other valid_other in
-        let books : BlockBooks = block_books (entries other) (found other) in
         subst (λ (v : View). AllowsFiles (cells other) (files_in v) × (HasSoundCopies (Fits known other) (files_in v) × IsWholeIn v)) (sym (from.others other valid_other apart)) (
-          block_allows (Fits known other) (view_of from.was other) books (cells other) own,
+          block_allows (Fits known other) (view_of from.was other) (books other) (cells other) own,
           (
-            block_is_sound (Fits known other) (view_of from.was other) books (cells other) own,
-            block_whole (Fits known other) (view_of from.was other) (entries other) (found other) (cells other) own (stands.clean other valid_other),
+            block_is_sound (Fits known other) (view_of from.was other) (books other) (cells other) own,
+            block_whole (Fits known other) (view_of from.was other) (books other) (cells other) (stands.fit other valid_other) own,
           ),
         )
 
@@ -122,12 +122,12 @@ module _ {told : Option (List World)} {volumes : ℕ} {entries : ℕ → Option 
       own_allow world is =
           let from : ComesFrom id step told world = came world is in
           let at : At (view_of world id) cell = passes (view_of from.was id) (view_of world id) from.stepped (stands.blocks from.was from.is id valid) in
-          let allows = block_allows (Fits known id) (view_of world id) at.books at.mid at.stood in (
+          let allows = block_allows (Fits known id) (view_of world id) at.books_then at.mid at.stood in (
             elim (at.allows allows.read allows.allowed) [
               | inl before ↦ inl (record { read = allows.read; reads = allows.reads; allowed = before })
               | inr after ↦ inr (record { read = allows.read; reads = allows.reads; allowed = after })
             ],
-            (block_is_sound (Fits known id) (view_of world id) at.books at.mid at.stood, at.whole),
+            (block_is_sound (Fits known id) (view_of world id) at.books_then at.mid at.stood, at.whole),
           )
 
       -- what a crash can leave at this moment

@@ -11,9 +11,9 @@ use Rattle.pool_state.specs.declared.start_fault.StartFault.{StartFault}
 use Rattle.pool_state.specs.declared.start_fault.StartFault.TheVariants.{Exists, None as NoBlock, Writing, Waiting, Unsure, Failed, Memory}
 use Rattle.pool_state.specs.declared.deleting.DeleteFault.{DeleteFault}
 use Rattle.pool_state.specs.declared.deleting.DeleteFault.TheVariants.{None as NotThere, Writing as IsWrittenNow, Failed as RemovalFailed}
-use Rattle.pool_state.specs.declared.entry.Entry.{Entry}
-use Rattle.pool_state.specs.declared.entry.State.{State}
-use Rattle.pool_state.specs.declared.entry.State.TheVariants.{Finalised, Writing as InWriting, Unsure as InDoubt, Waiting as InWaiting}
+use Rattle.replica_map.specs.declared.entry.State.{State}
+use Rattle.replica_map.specs.declared.entry.State.TheVariants.{Finalised, Writing as InWriting, Unsure as InDoubt, Waiting as InWaiting}
+use Rattle.map_model.specs.Stands.{EntryState, is_written, Entry}
 use Rattle.pool_state.specs.Stands.{with_cell}
 
 -- the room of a pool that counts none yet: every length fits
@@ -33,16 +33,16 @@ start_fault Memory = memory
 -- why a block whose entry is in this state can't be written
 abbrev pub write_fault : State → StartFault
 write_fault Finalised = Exists
-write_fault (InWriting block meta) = Writing
+write_fault InWriting = Writing
 write_fault InDoubt = Unsure
-write_fault (InWaiting block_left meta_left) = Waiting
+write_fault InWaiting = Waiting
 
 -- why a block whose entry is in this state can't be read, unless it is that of a replica
 abbrev pub read_fault : State → StartFault
 read_fault Finalised = NoBlock
-read_fault (InWriting block meta) = Writing
+read_fault InWriting = Writing
 read_fault InDoubt = Unsure
-read_fault (InWaiting block_left meta_left) = Waiting
+read_fault InWaiting = Waiting
 
 -- the reply that the answer of a start is
 abbrev pub start_reply : {W : Type 0} → Result W StartFault → Reply
@@ -92,11 +92,9 @@ pub record IsQuiet (cells : Cells) (Stood StandsFor : Knowledge → Cells → Ty
   pub sound_images : Stood matching cells → AddsOnly past since IsSound
 
 -- the entry is that of an open writer
-abbrev pub IsWritingState : State → Type 0
-IsWritingState Finalised = ⊥
-IsWritingState (InWriting block meta) = Unit {0}
-IsWritingState InDoubt = ⊥
-IsWritingState (InWaiting block_left meta_left) = ⊥
+abbrev pub IsWritingState : EntryState → Type 0
+IsWritingState (is_written base block meta) = Unit {0}
+IsWritingState state = ⊥
 
 abbrev pub IsWritten : Option Entry → Type 0
 IsWritten entry = IsSomeAnd entry (λ e. IsWritingState e.state)

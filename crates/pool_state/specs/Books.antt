@@ -1,74 +1,89 @@
 -- The books of a pool, and what they are to the definition of when a block's files stand.
-use Rattle.std.specs.Prelude.{ℕ, ◌≡◌, slice_get, take, true, ◌==◌, if◌then◌else◌, List, [], ◌∷◌, ◌++◌, Option, Some, None, option_map}
-use Rattle.std.specs.Ordering.{nat_cmp}
-use Rattle.std.specs.BTreeMap.{get}
-use Rattle.pool_state.specs.declared.entry.Entry.{Entry}
-use Rattle.pool_state.specs.declared.entry.State.{State}
-use Rattle.pool_state.specs.declared.entry.State.TheVariants.{Finalised, Writing, Unsure, Waiting}
-use Rattle.pool_state.specs.declared.leftover.Leftover.{Leftover}
+use Rattle.std.specs.Prelude.{ℕ, ◌≡◌, ◌+◌, ◌*◌, ◌≤◌, true, ◌==◌, if◌then◌else◌, List, [], ◌∷◌, ◌++◌, map, Option, Some, None, option_map}
+use Rattle.replica_map.specs.declared.entry.Entry.{Entry}
+use Rattle.replica_map.specs.declared.entry.Base.{Base}
+use Rattle.replica_map.specs.declared.entry.Grown.{Grown}
+use Rattle.replica_map.specs.declared.entry.State.{State}
+use Rattle.replica_map.specs.declared.entry.State.TheVariants.{Finalised, Writing, Unsure, Waiting}
+use Rattle.replica_map.specs.declared.leftover.Leftover.{Leftover}
+use Rattle.replica_map.specs.Books.{Books, entry_at, grown_at, leftovers_of, writers}
 use Rattle.volume_layout.specs.declared.block_file.BlockFile.TheVariants.{WritingBlock, WritingMeta}
-use Rattle.map_model.specs.Stands.{EntryState, is_final, is_written, in_doubt, is_waiting, Entry as BookEntry, Leftover as BookLeftover, BlockBooks}
-use Rattle.pool_state.specs.declared.replica_map.ReplicaMap.{ReplicaMap}
+use Rattle.map_model.specs.Stands.{EntryState, is_final, is_written, in_doubt, is_waiting, Base as BookBase, Entry as BookEntry, Leftover as BookLeftover, BlockBooks}
+use Rattle.map_model.specs.Tenures.{books_of}
 
--- the entry of a block
-abbrev pub entry_at : ReplicaMap → ℕ → Option Entry
-entry_at map id = get nat_cmp map.entries id
+-- the replica under an append, to the definition of when a block's files stand
+abbrev pub book_base : Base → BookBase
+book_base base = record { stamp = base.stamp; len = base.len }
 
--- an entry in another state
-abbrev pub with_state : State → Entry → Entry
-with_state state entry = record entry { state = state }
+abbrev pub kept_base : Option Grown → Option BookBase
+kept_base None = None
+kept_base (Some grown) = option_map book_base grown.base
 
--- an entry's state, to the definition of when a block's files stand
-abbrev pub entry_state : State → EntryState
-entry_state Finalised = is_final
-entry_state (Writing block_number meta_number) = is_written None block_number meta_number
-entry_state Unsure = in_doubt None
-entry_state (Waiting block_left meta_left) = is_waiting
+-- the numbers of a writer's two drafts
+abbrev pub block_number : Option Grown → ℕ
+block_number None = 0
+block_number (Some grown) = grown.block_no
 
--- an entry, to that definition
-abbrev pub book_entry : Entry → BookEntry
-book_entry entry = record { stamp = entry.stamp; len = entry.len; vol = entry.vol; rev = 0; state = entry_state entry.state }
+abbrev pub meta_number : Option Grown → ℕ
+meta_number None = 0
+meta_number (Some grown) = grown.meta_no
 
--- the files of a writer that was given up, as leftovers
-abbrev pub left_block : Entry → BookLeftover
-left_block entry = record { stamp = entry.stamp; vol = entry.vol; file = WritingBlock; len = entry.len; held = true }
+-- an entry's state, by what is kept beside it
+abbrev pub entry_state : Option Grown → State → EntryState
+entry_state grown Finalised = is_final
+entry_state grown Writing = is_written (kept_base grown) (block_number grown) (meta_number grown)
+entry_state grown Unsure = in_doubt (kept_base grown)
+entry_state grown Waiting = is_waiting
 
-abbrev pub left_meta : Entry → BookLeftover
-left_meta entry = record { stamp = entry.stamp; vol = entry.vol; file = WritingMeta entry.stamp; len = 0; held = true }
+-- an entry, by what is kept beside it
+abbrev pub book_entry : Option Grown → Entry → BookEntry
+book_entry grown entry =
+    record { stamp = entry.stamp; len = entry.len; vol = entry.vol; rev = entry.rev; state = entry_state grown entry.state }
 
--- those of them that an entry in this state lists
-abbrev pub left_in : Entry → State → List BookLeftover
-left_in entry Finalised = []
-left_in entry (Writing block_number meta_number) = []
-left_in entry Unsure = []
-left_in entry (Waiting block_left meta_left) =
-    (if block_left then left_block entry ∷ [] else []) ++ (if meta_left then left_meta entry ∷ [] else [])
-
--- the files of a block's own write that its entry lists
-abbrev pub own_left : Option Entry → List BookLeftover
-own_left None = []
-own_left (Some entry) = left_in entry entry.state
-
--- a file that the opening found, to that definition
+-- a leftover
 abbrev pub book_leftover : Leftover → BookLeftover
-book_leftover leftover = record { stamp = leftover.stamp; vol = leftover.vol; file = leftover.file; len = leftover.len; held = true }
+book_leftover leftover =
+    record { stamp = leftover.stamp; vol = leftover.vol; file = leftover.file; len = leftover.len; held = leftover.held }
 
--- those of one block
-abbrev pub of_block : ℕ → List Leftover → List BookLeftover
-of_block id [] = []
-of_block id (leftover ∷ rest) = if leftover.id == id then book_leftover leftover ∷ of_block id rest else of_block id rest
+-- the books of a block with this entry, what is kept beside it, and these leftovers
+abbrev pub books_with : Option Grown → Option Entry → List BookLeftover → BlockBooks
+books_with grown entry leftovers = books_of (option_map (book_entry grown) entry) leftovers None
 
--- the files of a block that the opening found
-abbrev pub found_at : ReplicaMap → ℕ → List BookLeftover
-found_at map id = of_block id map.found.items
+-- the leftovers of a block
+abbrev pub left_at : Books → ℕ → List BookLeftover
+left_at books id = map book_leftover (leftovers_of books id)
 
--- the books of a block with this entry, of which the opening found these files
-abbrev pub block_books : Option Entry → List BookLeftover → BlockBooks
-block_books entry found = record { entry = option_map book_entry entry; leftovers = own_left entry ++ found; ticket = None }
+-- the books of one block
+abbrev pub block_books : Books → ℕ → BlockBooks
+block_books books id = books_with (grown_at books id) (entry_at books id) (left_at books id)
 
--- the first of these files that is the block's
-pub record IsFirstOf (id : ℕ) (files : List Leftover) (at : ℕ) : Type 0 where
-  pub leftover : Leftover
-  pub is : slice_get files at ≡ Some leftover
-  pub own : leftover.id ≡ id
-  pub none_before : of_block id (take at files) ≡ []
+-- the books of one block become these, those of all others stay
+abbrev pub BooksBecome : ℕ → BlockBooks → Books → Books → Type 0
+BooksBecome id now old new = (other : ℕ) → block_books new other ≡ (if other == id then now else block_books old other)
+
+-- the books of all blocks stay
+abbrev pub BooksStay : Books → Books → Type 0
+BooksStay old new = (id : ℕ) → block_books new id ≡ block_books old id
+
+-- the files of the writer of an entry, as leftovers that are held
+abbrev pub held_block : Entry → BookLeftover
+held_block entry = record { stamp = entry.stamp; vol = entry.vol; file = WritingBlock; len = entry.len; held = true }
+
+abbrev pub held_meta : Entry → BookLeftover
+held_meta entry = record { stamp = entry.stamp; vol = entry.vol; file = WritingMeta entry.stamp; len = 0; held = true }
+
+-- the entry of a block that waits
+abbrev pub waits : Entry → Entry
+waits entry = record entry { state = Waiting }
+
+-- a file is listed behind the other leftovers
+abbrev pub with_leftover : BookLeftover → BlockBooks → BlockBooks
+with_leftover leftover books = record books { leftovers = books.leftovers ++ leftover ∷ [] }
+
+-- there is room for the two files that each open writer may leave
+abbrev pub HasRoom : Books → Type 0
+HasRoom books = 2 * writers books ≤ books.leftover_room
+
+-- and for those of one more writer, and its entry
+abbrev pub HasRoomForOne : Books → Type 0
+HasRoomForOne books = (1 ≤ books.entry_room) × (2 * writers books + 2 ≤ books.leftover_room)

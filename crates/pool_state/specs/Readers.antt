@@ -12,6 +12,7 @@ use Rattle.map_model.specs.Cells.{Replica, Cell, final}
 use Rattle.volume_layout.specs.declared.block_file.BlockFile.TheVariants.{Block, Meta}
 use Rattle.volume_layout.specs.BlockFiles.{path_of}
 use Rattle.map_model.specs.Sound.{Knowledge, Fits}
+use Rattle.map_model.specs.Stands.{Entry}
 use Rattle.pool_state.specs.declared.pool_record.Pool.{Pool}
 use Rattle.pool_state.specs.declared.read_pair.ReadPair.{ReadPair}
 
@@ -79,3 +80,13 @@ module _ {D S T R : Type 0} {g : Ghosts D S T R} {d : drafts.Ghosts T S} {s : se
   -- between the two pools a block's file and its meta file were looked for
   abbrev pub LooksForPair : (old new : Pool D S T R g d s r) → Type 0
   LooksForPair old new = LooksForTwo (mark_of g old.disks) (mark_of g new.disks)
+
+  -- the readers that were lent of a final cell tell the replica's bytes and those of its meta file
+  abbrev pub IsLent : Knowledge → (id : ℕ) → Pool D S T R g d s r → Cell → ReadPair D S T R → Type 0
+  IsLent known id pool cell pair =
+      Lends known id (g.worlds pool.disks) cell pair.stamp pair.len (block_bytes r.bytes pair) (meta_bytes r.bytes pair)
+
+  -- they are the files that stand on this volume
+  abbrev pub AreFilesOf : Pool D S T R g d s r → (id : ℕ) → Entry → ReadPair D S T R → Type 0
+  AreFilesOf pool id entry pair =
+      AreFiles (g.worlds pool.disks) id entry.vol entry.stamp (file_of r.bytes pair.block) (file_of r.bytes pair.meta)

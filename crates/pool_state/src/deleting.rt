@@ -1,5 +1,5 @@
 //! Deleting a block.
-ghost use Rattle.std.specs.Prelude.{◌≡◌, ◌≢◌, ℕ, None, Some, IfSome, IsErr, IsOk, IsErrOf};
+ghost use Rattle.std.specs.Prelude.{◌≡◌, ◌≢◌, ℕ, None, Some, IfSome, IsErr, IsErrOf};
 ghost use Rattle.disk_model.specs.Causes.{Rose};
 ghost use Rattle.disk_model.specs.Marks.{GoesOn};
 ghost use Rattle.map_model.specs.Cells.{Cells};
@@ -8,14 +8,16 @@ ghost use Rattle.map_model.specs.Steps.{Step, delete, delete_refusal};
 ghost use Rattle.pool_state.specs.Answers.{unlimited, delete_fault};
 ghost use Rattle.pool_state.specs.Tenures.{Deletes, state_refusal, KeepsWhole};
 ghost use Rattle.volume_layout.specs.Paths.{IsBlockId};
-ghost use Rattle.pool_state.specs.Books.{entry_at};
+ghost use Rattle.replica_map.specs.Books.{entry_at};
+ghost use Rattle.replica_map.specs.declared.entry.State.TheVariants.{Finalised, Unsure, Waiting};
+ghost use Rattle.pool_state.specs.Books.{block_books};
 ghost use Rattle.pool_state.specs.Stands.{Stands, StandsForSome};
-ghost use Rattle.pool_state.specs.declared.entry.State.TheVariants.{Finalised, Unsure, Waiting};
 
+use crate::bookkeeping::{put, take_away};
 use crate::cleaning::remove_files;
-use crate::entry::{Entry, State};
 use crate::pool_record::Pool;
 use disk_model::PoolDisks;
+use replica_map::{Entry, State};
 use volume_layout::{BlockFile, BlockId};
 
 /// Why a block was not deleted.
@@ -49,7 +51,7 @@ impl<D: PoolDisks> Pool<D> {
     pub fn delete(&mut self, id: BlockId) -> Result<(), DeleteFault>
         requires stands { StandsForSome self.old }
         ensures step { (cells : Cells) → Stands self.old nothing cells → Deletes id result cells self.old self.new × KeepsWhole self.old self.new }
-        ensures others { (other : ℕ) → other ≢ id → entry_at self.new.map other ≡ entry_at self.old.map other }
+        ensures others { (other : ℕ) → other ≢ id → block_books self.new.map other ≡ block_books self.old.map other }
         ensures goes_on { GoesOn D.PoolDisks self.old.disks self.new.disks }
         ensures failed { IsErrOf result DeleteFault.Failed → Rose (D.faults self.old.disks) (D.faults self.new.disks) }
     {
@@ -57,10 +59,10 @@ impl<D: PoolDisks> Pool<D> {
             return Err(DeleteFault::None);
         };
         match entry.state {
-            State::Writing { .. } => Err(DeleteFault::Writing),
+            State::Writing => Err(DeleteFault::Writing),
             State::Finalised => self.delete_final(id, &entry),
             State::Unsure => self.delete_unsure(id, &entry),
-            State::Waiting { block, meta } => self.delete_waiting(id, &entry, block, meta),
+            State::Waiting => self.delete_waiting(id, &entry),
         }
     }
 
@@ -68,20 +70,28 @@ impl<D: PoolDisks> Pool<D> {
     fn delete_final(&mut self, id: BlockId, entry: &Entry) -> Result<(), DeleteFault>
         requires entry { entry_at self.old.map id ≡ Some entry.now }
         requires state { entry.now.state ≡ Finalised }
+        requires own { entry.now.id ≡ id }
+        requires valid { IsBlockId id }
         requires stands { StandsForSome self.old }
         ensures step { (cells : Cells) → Stands self.old nothing cells → Deletes id result cells self.old self.new × KeepsWhole self.old self.new }
-        ensures others { (other : ℕ) → other ≢ id → entry_at self.new.map other ≡ entry_at self.old.map other }
+        ensures others { (other : ℕ) → other ≢ id → block_books self.new.map other ≡ block_books self.old.map other }
         ensures goes_on { GoesOn D.PoolDisks self.old.disks self.new.disks }
         ensures failed { IsErr result → Rose (D.faults self.old.disks) (D.faults self.new.disks) }
     {
         let files = [BlockFile::Block, BlockFile::Meta(entry.stamp)];
         match remove_files(&mut self.disks, id, entry.vol, &files) {
             Ok(()) => {
-                self.map.remove(id);
+                take_away(&mut self.map, entry);
                 Ok(())
             }
             Err(_) => {
-                self.map.set_state(id, State::Unsure);
+                put(
+                    &mut self.map,
+                    Entry {
+                        state: State::Unsure,
+                        ..*entry
+                    },
+                );
                 Err(DeleteFault::Failed)
             }
         }
@@ -91,9 +101,11 @@ impl<D: PoolDisks> Pool<D> {
     fn delete_unsure(&mut self, id: BlockId, entry: &Entry) -> Result<(), DeleteFault>
         requires entry { entry_at self.old.map id ≡ Some entry.now }
         requires state { entry.now.state ≡ Unsure }
+        requires own { entry.now.id ≡ id }
+        requires valid { IsBlockId id }
         requires stands { StandsForSome self.old }
         ensures step { (cells : Cells) → Stands self.old nothing cells → Deletes id result cells self.old self.new × KeepsWhole self.old self.new }
-        ensures others { (other : ℕ) → other ≢ id → entry_at self.new.map other ≡ entry_at self.old.map other }
+        ensures others { (other : ℕ) → other ≢ id → block_books self.new.map other ≡ block_books self.old.map other }
         ensures goes_on { GoesOn D.PoolDisks self.old.disks self.new.disks }
         ensures failed { IsErr result → Rose (D.faults self.old.disks) (D.faults self.new.disks) }
     {
@@ -105,32 +117,28 @@ impl<D: PoolDisks> Pool<D> {
         ];
         match remove_files(&mut self.disks, id, entry.vol, &files) {
             Ok(()) => {
-                self.map.remove(id);
+                take_away(&mut self.map, entry);
                 Ok(())
             }
             Err(_) => Err(DeleteFault::Failed),
         }
     }
 
-    /// Deletes a block that waits: the files of its writer, then those that the opening found.
-    fn delete_waiting(
-        &mut self,
-        id: BlockId,
-        entry: &Entry,
-        block: bool,
-        meta: bool,
-    ) -> Result<(), DeleteFault>
+    /// Deletes a block that waits: the files that are listed.
+    fn delete_waiting(&mut self, id: BlockId, entry: &Entry) -> Result<(), DeleteFault>
         requires entry { entry_at self.old.map id ≡ Some entry.now }
-        requires state { entry.now.state ≡ Waiting block meta }
+        requires state { entry.now.state ≡ Waiting }
+        requires own { entry.now.id ≡ id }
+        requires valid { IsBlockId id }
         requires stands { StandsForSome self.old }
         ensures step { (cells : Cells) → Stands self.old nothing cells → Deletes id result cells self.old self.new × KeepsWhole self.old self.new }
-        ensures others { (other : ℕ) → other ≢ id → entry_at self.new.map other ≡ entry_at self.old.map other }
+        ensures others { (other : ℕ) → other ≢ id → block_books self.new.map other ≡ block_books self.old.map other }
         ensures goes_on { GoesOn D.PoolDisks self.old.disks self.new.disks }
         ensures failed { IsErr result → Rose (D.faults self.old.disks) (D.faults self.new.disks) }
     {
-        match self.clean(id, entry, block, meta) {
+        match self.clean(id) {
             Ok(()) => {
-                self.map.remove(id);
+                take_away(&mut self.map, entry);
                 Ok(())
             }
             Err(_) => Err(DeleteFault::Failed),
@@ -143,7 +151,7 @@ fn refusal_in(state: State) -> Option<DeleteFault>
     ensures { result ≡ state_refusal state }
 {
     match state {
-        State::Writing { .. } => Some(DeleteFault::Writing),
-        State::Finalised | State::Unsure | State::Waiting { .. } => None,
+        State::Writing => Some(DeleteFault::Writing),
+        State::Finalised | State::Unsure | State::Waiting => None,
     }
 }

@@ -5,8 +5,8 @@ ghost use Rattle.map_model.specs.Sound.{Knowledge};
 ghost use Rattle.pool_state.specs.Stands.{Stands, HoldNoBlock};
 
 use crate::pool_record::Pool;
-use crate::replica_map::ReplicaMap;
 use disk_model::PoolDisks;
+use replica_map::ReplicaMap;
 use std::alloc::Global;
 
 /// A pool without replicas, over disks that hold no file of a block. It takes no memory and makes no device call.

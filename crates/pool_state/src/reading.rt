@@ -9,16 +9,16 @@ ghost use Rattle.map_model.specs.Sound.{Knowledge, nothing};
 ghost use Rattle.volume_layout.specs.BlockFiles.{path_of};
 ghost use Rattle.map_model.specs.Steps.{Step, read};
 ghost use Rattle.pool_state.specs.Answers.{unlimited, start_fault, read_fault};
-ghost use Rattle.pool_state.specs.Books.{entry_at};
-ghost use Rattle.pool_state.specs.Tenures.{Rests, KeepsWhole};
+ghost use Rattle.pool_state.specs.Books.{block_books};
+ghost use Rattle.pool_state.specs.Tenures.{Rests, GivesNumber, KeepsWhole};
 ghost use Rattle.pool_state.specs.Stands.{Stands, StandsForSome};
-ghost use Rattle.pool_state.specs.Readers.{reader_bytes, block_bytes, meta_bytes, file_of, Lends, AreFiles, LooksForPair};
+ghost use Rattle.pool_state.specs.Readers.{reader_bytes, file_of, IsLent, AreFilesOf, LooksForPair};
 
-use crate::entry::State;
 use crate::pool_record::Pool;
 use crate::read_pair::ReadPair;
 use crate::start_fault::StartFault;
 use disk_model::{DiskError, PoolDisks};
+use replica_map::State;
 use std::alloc::Global;
 use volume_layout::{BlockFile, BlockId};
 
@@ -65,15 +65,11 @@ impl<D: PoolDisks> Pool<D> {
         ensures refused { (cells : Cells) → Stands self.old nothing cells →
             IfErr result (λ fault. Step unlimited (cells id) read (start_fault fault) (cells id)) }
         ensures lent { (known : Knowledge) (cells : Cells) → Stands self.old known cells →
-            IfOk result (λ pair. Lends known id (D.worlds self.old.disks) (cells id) pair.stamp pair.len
-            (block_bytes D.Reader.bytes pair) (meta_bytes D.Reader.bytes pair)) }
-        ensures files { IfSome (entry_at self.old.map id) (λ entry. IfOk result (λ pair.
-            AreFiles (D.worlds self.new.disks) id entry.vol entry.stamp
-            (file_of D.Reader.bytes pair.block) (file_of D.Reader.bytes pair.meta))) }
-        ensures block_number { IfOk result (λ pair. IfSome pair.block (λ reader.
-            GivenBetween (D.next_number self.old.disks) (D.next_number self.new.disks) (D.Reader.number reader))) }
-        ensures meta_number { IfOk result (λ pair. IfSome pair.meta (λ reader.
-            GivenBetween (D.next_number self.old.disks) (D.next_number self.new.disks) (D.Reader.number reader))) }
+            IfOk result (λ pair. IsLent known id self.old (cells id) pair) }
+        ensures files { IfSome (block_books self.old.map id).entry (λ entry.
+            IfOk result (λ pair. AreFilesOf self.new id entry pair)) }
+        ensures block_number { IfOk result (λ pair. IfSome pair.block (λ reader. GivesNumber self.old self.new (D.Reader.number reader))) }
+        ensures meta_number { IfOk result (λ pair. IfSome pair.meta (λ reader. GivesNumber self.old self.new (D.Reader.number reader))) }
         ensures goes_on { GoesOn D.PoolDisks self.old.disks self.new.disks }
         ensures looked { IsOk result → LooksForPair self.old self.new }
         ensures failed { IsErrOf result StartFault.Failed → Rose (D.faults self.old.disks) (D.faults self.new.disks) }
@@ -103,8 +99,8 @@ fn read_refusal(state: State) -> StartFault
 {
     match state {
         State::Finalised => StartFault::None,
-        State::Writing { .. } => StartFault::Writing,
+        State::Writing => StartFault::Writing,
         State::Unsure => StartFault::Unsure,
-        State::Waiting { .. } => StartFault::Waiting,
+        State::Waiting => StartFault::Waiting,
     }
 }

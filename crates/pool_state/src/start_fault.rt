@@ -1,8 +1,4 @@
 //! Why a start was refused.
-use crate::entry::State;
-use disk_model::DiskError;
-use std::alloc::AllocError;
-
 /// Why a write or a read was not started.
 #[derive(Clone, Copy, Debug, PartialEq, Eq)]
 pub enum StartFault {

@@ -10,7 +10,7 @@ returns-in-Err-clause-removes g c =
     removal_fails c.loop-at.invariant.so_far c.index-files-at.result
     (files_up_to c.args.files.now c.loop-at.at c.index-files-at.result (omega (arith, c.loop-at-test.true, c.loop-at.auto.at-end)) c.index-files-at.is)
     c.remove.ensures.time.nothing_else _ (λ ok. absurd (false≢true ok))
-    (reaches_remove_at c.args.id c.args.vol c.index-files-at.result c.get-valid.ensures.in_range c.path.ensures.valid _ (c.as_str.ensures ∙ c.path.ensures.text) _ _ c.remove.ensures.worlds)
+    (reaches_remove_at c.args.id c.args.vol c.index-files-at.result c.requires.valid c.path.ensures.valid _ (c.as_str.ensures ∙ c.path.ensures.text) _ _ c.remove.ensures.worlds)
 
 pub loop-at-preserved : goal.loop-at-preserved
 loop-at-preserved g c = record {
@@ -20,7 +20,7 @@ loop-at-preserved g c = record {
       (next_removed c.loop-at.invariant.so_far c.index-files-at.result
       (files_up_to c.args.files.now c.loop-at.at c.index-files-at.result (omega (arith, c.loop-at-test.true, c.loop-at.auto.at-end)) c.index-files-at.is)
       c.remove.ensures.time.nothing_else
-      (reaches_removed_at c.args.id c.args.vol c.index-files-at.result c.get-valid.ensures.in_range c.path.ensures.valid _ (c.as_str.ensures ∙ c.path.ensures.text) _ _ c.in-Ok.ensures.ok));
+      (reaches_removed_at c.args.id c.args.vol c.index-files-at.result c.requires.valid c.path.ensures.valid _ (c.as_str.ensures ∙ c.path.ensures.text) _ _ c.in-Ok.ensures.ok));
   goes_on = went_then g.D.PoolDisks _ _ _ c.loop-at.invariant.goes_on
       (went_call g.D.PoolDisks (g.met.D.PoolDisks.counts_now _) c.remove.ensures.time c.remove.ensures.worlds.honest c.remove.ensures.cause.later c.remove.ensures.absences (omega (arith, c.remove.ensures.numbers)) c.remove.ensures.volumes);
 }

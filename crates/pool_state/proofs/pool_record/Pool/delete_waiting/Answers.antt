@@ -1,27 +1,36 @@
-use Rattle.std.proofs.Common.{false, inl, refl, sym, ◌∙◌, ap, subst}
+use Rattle.std.proofs.Common.{None, inl, refl, sym, ◌∙◌, ap, subst}
 use Rattle.map_model.specs.Cells.{absent}
 use Rattle.map_model.specs.Steps.{Step, delete, half_deleted, failed, done}
-use Rattle.pool_state.specs.declared.entry.State.TheVariants.{Waiting}
+use Rattle.replica_map.specs.declared.entry.State.TheVariants.{Waiting}
+use Rattle.replica_map.specs.Books.{entry_at, grown_at}
 use Rattle.pool_state.specs.Answers.{unlimited}
-use Rattle.pool_state.specs.Books.{with_state}
-use Rattle.pool_state.proofs.Changing.{same_found}
-use Rattle.pool_state.proofs.Deletions.{waits_here, quiet_failure, quiet_deletion, waiting_goes, waiting_of}
+use Rattle.pool_state.specs.Books.{book_entry, books_with}
+use Rattle.pool_state.proofs.Changing.{pool_stands}
+use Rattle.pool_state.proofs.Entries.{agrees_by, waits_in, settled}
+use Rattle.pool_state.proofs.Reaching.{reaches_same}
+use Rattle.pool_state.proofs.Deletions.{waits_here, waiting_cell, quiet_failure, quiet_deletion, waiting_goes}
 use Rattle.pool_state.proofs.pool_record.Pool.delete_waiting.Goals as goal
 
 pub returns-in-Ok-clause-step : goal.returns-in-Ok-clause-step
 returns-in-Ok-clause-step g c cells stands =
-    let e = with_state (Waiting false false) c.args.entry.now in
-    let valid = c.remove.ensures.valid in
+    let id = c.args.id in
+    let map = c.clean.new.self.map in
+    let valid = c.requires.valid in
     let quiet = c.clean.ensures.quiet cells stands in
-    let now = quiet.0.stands _ stands in
-    let waits = waits_here now c.args.id valid e c.in-Ok.ensures.done refl c.in-Ok.ensures.none in
-    quiet_deletion c.args.id quiet (subst (λ cell. Step unlimited cell delete done absent) (sym waits) (refl, refl)) (λ e. absurd cc, λ e. refl)
-    (λ known old. waiting_goes old c.args.id valid e c.in-Ok.ensures.done refl c.in-Ok.ensures.none _ _ (same_found _ _ c.remove.ensures.found) c.remove.ensures.removed)
+    let there = ap (λ r. entry_at (record map { rows = r }) id) c.clean.ensures.rows.0 ∙ c.requires.entry in
+    let has = waits_in map id c.args.entry.now there c.requires.state c.in-Ok.ensures.done in
+    let e = book_entry (grown_at map id) (record c.args.entry.now { state = Waiting }) in
+    let waits = waits_here (quiet.0.stands _ stands) id valid e has refl in
+    quiet_deletion id quiet (subst (λ cell. Step unlimited cell delete done absent) (sym waits) (refl, refl)) (λ e. absurd cc, λ e. refl)
+    (λ known old. pool_stands old id valid (reaches_same id _ _ refl) refl (waiting_goes old id valid e has refl)
+    (settled map c.take_away.new.map (λ l. books_with None None l) c.requires.own c.take_away.ensures.books c.in-Ok.ensures.done))
 
 pub returns-in-Err-clause-step : goal.returns-in-Err-clause-step
 returns-in-Err-clause-step g c cells stands =
-    let waits = waiting_of stands c.args.id c.clean.ensures.valid c.args.entry.now c.requires.entry c.args.block c.args.meta c.requires.state in
-    quiet_failure c.args.id (c.clean.ensures.quiet cells stands) (subst (λ cell. Step unlimited cell delete failed cell) (sym waits) (inl refl))
+    let id = c.args.id in
+    let map = c.args.self.now.map in
+    let e = c.args.entry.now in
+    let waits = waiting_cell (cells id) (book_entry (grown_at map id) e) (ap (λ s. Rattle.pool_state.specs.Books.entry_state (grown_at map id) s) c.requires.state)
+    (agrees_by map id (stands.fit id c.requires.valid) e c.requires.entry) in
+    quiet_failure id (c.clean.ensures.quiet cells stands) (subst (λ cell. Step unlimited cell delete failed cell) (sym waits) (inl refl))
     (λ is. waits ∙ sym (ap half_deleted waits), λ e. absurd cc)
-
--- timed imp

@@ -1,5 +1,5 @@
-use Rattle.std.proofs.Common.{false, ◌≡◌, ℕ, ◌==◌, if◌then◌else◌, [], true, Some, None, Err, refl, sym, ◌∙◌, ap, subst, arith, inl, inr}
-use Rattle.disk_model.specs.Worlds.{DraftPlace}
+use Rattle.std.proofs.Common.{◌≡◌, ℕ, [], ◌∷◌, true, Some, None, Err, refl, sym, ◌∙◌, ap, subst, arith, inl, inr, option_map}
+use Rattle.disk_model.specs.Worlds.{DraftPlace, draft_at}
 use Rattle.disk_model.specs.Told.{NoDraftAt}
 use Rattle.disk_model.proofs.GoingOn.{went_call, went_then}
 use Rattle.volume_layout.proofs.Reading.{is_stamp-IsStamp}
@@ -7,14 +7,26 @@ use Rattle.map_model.specs.Cells.{Cell, absent, waiting, growing}
 use Rattle.volume_layout.specs.declared.block_file.BlockFile.TheVariants.{WritingBlock, WritingMeta}
 use Rattle.map_model.specs.Slots.{View, create_in}
 use Rattle.map_model.specs.Steps.{failed, memory, done}
-use Rattle.map_model.specs.Tenures.{Fails, block_failed, meta_failed, meta_memory, StartsWrite}
-use Rattle.pool_state.specs.declared.entry.State.TheVariants.{Writing, Waiting}
-use Rattle.pool_state.specs.Books.{block_books}
+use Rattle.map_model.specs.Stands.{is_waiting, BlockBooks}
+use Rattle.map_model.specs.Tenures.{books_of, writer_entry, written_books, block_left, meta_left, Fails, block_failed, meta_failed, meta_memory, StartsWrite}
+use Rattle.replica_map.specs.declared.entry.Entry.{Entry}
+use Rattle.replica_map.specs.declared.entry.Grown.{Grown}
+use Rattle.replica_map.specs.declared.entry.State.TheVariants.{Writing, Waiting}
+use Rattle.replica_map.specs.Books.{grown_at}
+use Rattle.pool_state.specs.Books.{block_books, books_with, held_block, held_meta, with_leftover}
+use Rattle.pool_state.specs.Writers.{writer_at}
+use Rattle.pool_state.specs.Stands.{IsVolume}
 use Rattle.pool_state.specs.Reaching.{Stays, Then}
 use Rattle.pool_state.proofs.Reaching.{reaches_same, reaches_create_at, reaches_created_at, reaches_then}
-use Rattle.pool_state.proofs.Changing.{undone, overwritten, restated, same_found}
-use Rattle.pool_state.proofs.Showing.{begins, calls, shown, stays_passes, takes}
-use Rattle.pool_state.proofs.Starting.{stands_same, start_refused, refused_so, step_of, waits_passes, start_waits, start_grows, grows_passes, start_free, start_free_meta, starter, entry_in, is_absent}
+use Rattle.pool_state.proofs.Changing.{pool_stands, changed_to, stands_unchanged}
+use Rattle.pool_state.proofs.Entries.{nothing_said, agrees_by}
+use Rattle.pool_state.proofs.Showing.{begins, calls, shown, stays_passes, passes_end, takes}
+use Rattle.pool_state.proofs.Starting.{refused_step, refused_so, step_of, waits_passes, start_waits, start_grows, start_free, start_free_meta, is_absent}
+use Rattle.map_model.specs.Steps.{Step, start_write}
+use Rattle.pool_state.specs.Answers.{unlimited, start_fault}
+use Rattle.std.proofs.lemmas.Bool.{eq-eqb}
+use Rattle.pair_draft.specs.Writers.{writer_of}
+use Rattle.pool_state.proofs.Belonging.{told_empty, started_stands}
 use Rattle.pool_state.proofs.pool_record.Pool.start_write.Goals as goal
 
 not_waiting : (cell : Cell) → cell ≡ absent → cell ≡ waiting → ⊥
@@ -22,159 +34,225 @@ not_waiting cell is waits = let same : absent ≡ waiting = sym is ∙ waits in 
 
 pub returns-in-Some-clause-step : goal.returns-in-Some-clause-step
 returns-in-Some-clause-step g c cells stands =
-    let so = refused_so stands c.args.id c.find.ensures.valid c.in-Some.entry c.write_refusal.result c.write_refusal.ensures in
-    takes (cells c.args.id)
-    (start_refused stands c.args.id c.find.ensures.valid c.in-Some.entry c.args.stamp c.args.need c.write_refusal.result
-    (sym c.find.ensures.entry ∙ c.in-Some.is) c.write_refusal.ensures)
+    let id = c.args.id in
+    let map = c.args.self.now.map in
+    let so = refused_so c.in-Some.entry.state c.write_refusal.result c.write_refusal.ensures in
+    takes (cells id)
+    (subst (λ f. Step unlimited (cells id) (start_write c.args.stamp c.args.need) (start_fault f) (cells id)) (sym c.write_refusal.ensures)
+    (refused_step (cells id) (grown_at map id) c.in-Some.entry c.args.stamp c.args.need (agrees_by map id (stands.fit id c.find.ensures.valid) c.in-Some.entry (sym c.find.ensures.value ∙ c.in-Some.is))))
     (λ e. absurd (so.0 cc), λ e w. absurd (so.1 cc), λ e. inl refl, λ e. absurd cc)
-    (λ known old. (stands_same _ _ _ _ _ _ _ _ known cells c.args.id old refl refl (λ other. refl) (λ other. refl), begins _ _)) stands
+    (λ known old. (stands_unchanged id old refl refl (λ other. refl), begins _ _)) stands
 
 pub returns-in_default-reserve_sums-clause-step : goal.returns-in_default-reserve_sums-clause-step
 returns-in_default-reserve_sums-clause-step g c cells stands =
-    let none = sym c.find.ensures.entry ∙ c.in_default.is in
-    takes (cells c.args.id)
-    (step_of stands c.args.id c.find.ensures.valid none c.args.stamp c.args.need memory (cells c.args.id) (omega arith) (inl (is_absent stands c.args.id c.find.ensures.valid none)))
-    (λ e. absurd cc, λ e w. absurd (not_waiting _ (is_absent stands c.args.id c.find.ensures.valid none) w), λ e. inl refl, λ e. absurd cc)
-    (λ known old. (stands_same _ _ _ _ _ _ _ _ known cells c.args.id old refl refl (λ other. refl) (λ other. refl), begins _ _)) stands
+    let id = c.args.id in
+    let map = c.args.self.now.map in
+    let valid = c.find.ensures.valid in
+    let no_entry = sym c.find.ensures.value ∙ c.in_default.is in
+    let fit = stands.fit id valid in
+    let none = nothing_said map id fit no_entry in
+    takes (cells id)
+    (step_of stands id valid none c.args.stamp c.args.need memory (cells id) (omega arith) (inl (is_absent stands id valid none)))
+    (λ e. absurd cc, λ e w. absurd (not_waiting _ (is_absent stands id valid none) w), λ e. inl refl, λ e. absurd cc)
+    (λ known old. (stands_unchanged id old refl refl (λ other. refl), begins _ _)) stands
 
-pub returns-in-Err-clause-step : goal.returns-in-Err-clause-step
-returns-in-Err-clause-step g c cells stands =
-    let none = sym c.find.ensures.entry ∙ c.in_default.is in
-    takes (cells c.args.id)
-    (step_of stands c.args.id c.find.ensures.valid none c.args.stamp c.args.need memory (cells c.args.id) (omega arith) (inl (is_absent stands c.args.id c.find.ensures.valid none)))
-    (λ e. absurd cc, λ e w. absurd (not_waiting _ (is_absent stands c.args.id c.find.ensures.valid none) w), λ e. inl refl, λ e. absurd cc)
-    (λ known old. (stands_same _ _ _ _ _ _ _ _ known cells c.args.id old refl refl c.in-Err.ensures.err (same_found _ _ c.in-Err.ensures.found), begins _ _)) stands
+pub returns-in_default-make_room-clause-step : goal.returns-in_default-make_room-clause-step
+returns-in_default-make_room-clause-step g c cells stands =
+    let id = c.args.id in
+    let map = c.args.self.now.map in
+    let valid = c.find.ensures.valid in
+    let no_entry = sym c.find.ensures.value ∙ c.in_default.is in
+    let fit = stands.fit id valid in
+    let none = nothing_said map id fit no_entry in
+    takes (cells id)
+    (step_of stands id valid none c.args.stamp c.args.need memory (cells id) (omega arith) (inl (is_absent stands id valid none)))
+    (λ e. absurd cc, λ e w. absurd (not_waiting _ (is_absent stands id valid none) w), λ e. inl refl, λ e. absurd cc)
+    (λ known old. (stands_unchanged id old refl refl c.make_room.ensures.books, begins _ _)) stands
 
 pub create-requires-clause-free : goal.create-requires-clause-free
 create-requires-clause-free g c =
+    let id = c.args.id in
     subst (NoDraftAt (g.D.PoolDisks.worlds c.args.self.now.disks) 1) (sym (c.as_str.ensures ∙ c.rbw_block.ensures))
-    (start_free c.requires.stands.1 c.args.id c.find.ensures.valid (sym c.find.ensures.entry ∙ c.in_default.is) 1 WritingBlock refl)
+    (start_free c.requires.stands.1 id c.find.ensures.valid
+    (nothing_said c.args.self.now.map id (c.requires.stands.1.fit id c.find.ensures.valid) (sym c.find.ensures.value ∙ c.in_default.is)) 1 WritingBlock refl)
 
 pub returns-in-Err-Failed-clause-step : goal.returns-in-Err-Failed-clause-step
 returns-in-Err-Failed-clause-step g c cells stands =
     let id = c.args.id in
-    let none = sym c.find.ensures.entry ∙ c.in_default.is in
-    let number = g.D.PoolDisks.next_number c.args.self.now.disks in
-    let step : View → View → Type 0 = λ before after. Fails before (create_in before 1 WritingBlock number) after in
-    let reaches = reaches_create_at id 1 WritingBlock number c.find.ensures.valid refl refl _ (c.as_str.ensures ∙ c.rbw_block.ensures) _ _ c.in-Err-Failed.ensures.worlds in
-    takes waiting (step_of stands id c.find.ensures.valid none c.args.stamp c.args.need failed waiting (omega arith) (inr refl))
+    let map = c.args.self.now.map in
+    let valid = c.find.ensures.valid in
+    let no_entry = sym c.find.ensures.value ∙ c.in_default.is in
+    let fit = stands.fit id valid in
+    let none = nothing_said map id fit no_entry in
+    let made = c.make_room.new.map in
+    let stamped = c.get-in_range.ensures.in_range in
+    let none_left = ap (λ (b : BlockBooks). b.leftovers) (c.make_room.ensures.books id ∙ none) in
+    let b = g.D.PoolDisks.next_number c.args.self.now.disks in
+    let w = writer_at c.args.stamp 1 c.args.need 0 b 0 in
+    let waiting_entry : Entry = record { id = id; stamp = c.args.stamp; len = c.args.need; vol = 1; rev = 0; state = Waiting } in
+    let step : View → View → Type 0 = λ before after. Fails before (create_in before 1 WritingBlock b) after in
+    let reaches = reaches_create_at id 1 WritingBlock b valid refl refl _ (c.as_str.ensures ∙ c.rbw_block.ensures) _ _ c.in-Err-Failed.ensures.worlds in
+    takes waiting (step_of stands id valid none c.args.stamp c.args.need failed waiting (omega arith) (inr refl))
     (λ e. refl, λ e w. absurd cc, λ e. inr refl, λ e. absurd cc)
-    (λ known old. (
-      start_waits old id c.find.ensures.valid none c.args.stamp c.args.need 1 c.get-in_range.ensures.in_range (omega arith) old.some_volume
-          _ _ _ _ c.in-Err-Failed.ensures.volumes (same_found _ _ c.in-Ok-insert.ensures.found) step true false number 0 reaches c.in-Ok-insert.ensures.added (λ before after stepped. block_failed after stepped),
-      calls _ (begins _ _) c.in-Err-Failed.ensures.time.nothing_else (shown old id c.find.ensures.valid step _ reaches waiting
-          (waits_passes old id c.find.ensures.valid none c.args.stamp c.args.need 1 c.get-in_range.ensures.in_range (omega arith) old.some_volume step true false number 0 waiting
-          (λ before after stepped. block_failed after stepped))),
+    (λ known old.
+    let leads = start_waits old id valid none w stamped (omega arith, old.some_volume) step (block_left w true ∷ []) ((omega arith, old.some_volume), tt) (λ before after stepped. block_failed after stepped) in (
+      pool_stands old id valid reaches c.in-Err-Failed.ensures.volumes leads
+          (changed_to id (block_books map) (block_books made) _ _ _ c.add_half_created.ensures.books c.make_room.ensures.books
+          (ap (λ l. with_leftover (held_block waiting_entry) (books_with None (Some waiting_entry) l)) none_left)),
+      calls _ (begins _ _) c.in-Err-Failed.ensures.time.nothing_else (shown old id valid step _ reaches waiting (waits_passes old id valid none w stamped (omega arith, old.some_volume) waiting leads)),
     )) stands
 
 pub returns-in-Err-Memory-clause-step : goal.returns-in-Err-Memory-clause-step
 returns-in-Err-Memory-clause-step g c cells stands =
     let id = c.args.id in
-    let none = sym c.find.ensures.entry ∙ c.in_default.is in
+    let map = c.args.self.now.map in
+    let valid = c.find.ensures.valid in
+    let no_entry = sym c.find.ensures.value ∙ c.in_default.is in
+    let fit = stands.fit id valid in
+    let none = nothing_said map id fit no_entry in
     let same = (c.in-Err-Memory.ensures.memory (ap Err c.in-Err-Memory.field-0-is)).0 in
-    let reaches = reaches_same id _ _ same in
-    takes (cells id) (step_of stands id c.find.ensures.valid none c.args.stamp c.args.need memory (cells id) (omega arith) (inl (is_absent stands id c.find.ensures.valid none)))
-    (λ e. absurd cc, λ e w. absurd (not_waiting _ (is_absent stands id c.find.ensures.valid none) w), λ e. inl refl, λ e. absurd cc)
+    takes (cells id) (step_of stands id valid none c.args.stamp c.args.need memory (cells id) (omega arith) (inl (is_absent stands id valid none)))
+    (λ e. absurd cc, λ e w. absurd (not_waiting _ (is_absent stands id valid none) w), λ e. inl refl, λ e. absurd cc)
     (λ known old. (
-      stands_same _ _ _ _ _ _ _ _ known cells id old same c.in-Err-Memory.ensures.volumes
-          (undone id _ _ _ _ none c.in-Ok-insert.ensures.added c.remove.ensures.removed) (same_found _ _ (c.remove.ensures.found ∙ c.in-Ok-insert.ensures.found)),
-      calls _ (begins _ _) c.in-Err-Memory.ensures.time.nothing_else (shown old id c.find.ensures.valid Stays _ reaches (cells id)
-          (stays_passes old id c.find.ensures.valid)),
+      stands_unchanged id old same c.in-Err-Memory.ensures.volumes c.make_room.ensures.books,
+      calls _ (begins _ _) c.in-Err-Memory.ensures.time.nothing_else (shown old id valid Stays _ (reaches_same id _ _ same) (cells id) (stays_passes old id valid)),
     )) stands
 
 pub create-requires-2-clause-free : goal.create-requires-2-clause-free
 create-requires-2-clause-free g c =
+    let id = c.args.id in
     let number = g.D.PoolDisks.next_number c.args.self.now.disks in
     subst (NoDraftAt (g.D.PoolDisks.worlds c.create.new.self) 1) (sym (c.as_str-2.ensures ∙ c.rbw_meta.ensures))
-    (start_free_meta c.requires.stands.1 c.args.id c.find.ensures.valid (sym c.find.ensures.entry ∙ c.in_default.is) _ 1 number c.args.stamp c.get-in_range.ensures.in_range
+    (start_free_meta c.requires.stands.1 id c.find.ensures.valid
+    (nothing_said c.args.self.now.map id (c.requires.stands.1.fit id c.find.ensures.valid) (sym c.find.ensures.value ∙ c.in_default.is)) _ 1 number c.args.stamp c.get-in_range.ensures.in_range
     (is_stamp-IsStamp c.args.stamp c.get-in_range.ensures.in_range)
-    (reaches_created_at c.args.id 1 WritingBlock number c.find.ensures.valid refl refl _ (c.as_str.ensures ∙ c.rbw_block.ensures) _ _ c.in-Ok-create.ensures.ok))
+    (reaches_created_at id 1 WritingBlock number c.find.ensures.valid refl refl _ (c.as_str.ensures ∙ c.rbw_block.ensures) _ _ c.in-Ok-create.ensures.ok))
 
 pub returns-in-Err-Failed-create-clause-step : goal.returns-in-Err-Failed-create-clause-step
 returns-in-Err-Failed-create-clause-step g c cells stands =
     let id = c.args.id in
-    let none = sym c.find.ensures.entry ∙ c.in_default.is in
+    let map = c.args.self.now.map in
+    let valid = c.find.ensures.valid in
+    let no_entry = sym c.find.ensures.value ∙ c.in_default.is in
+    let fit = stands.fit id valid in
+    let none = nothing_said map id fit no_entry in
+    let made = c.make_room.new.map in
+    let stamped = c.get-in_range.ensures.in_range in
+    let none_left = ap (λ (b : BlockBooks). b.leftovers) (c.make_room.ensures.books id ∙ none) in
     let b = g.D.PoolDisks.next_number c.args.self.now.disks in
     let m = g.D.PoolDisks.next_number c.create.new.self in
+    let w = writer_at c.args.stamp 1 c.args.need 0 b m in
     let one : View → View → Type 0 = λ before after. after ≡ create_in before 1 WritingBlock b in
+    let waiting_entry : Entry = record { id = id; stamp = c.args.stamp; len = c.args.need; vol = 1; rev = 0; state = Waiting } in
+    let first = reaches_created_at id 1 WritingBlock b valid refl refl _ (c.as_str.ensures ∙ c.rbw_block.ensures) _ _ c.in-Ok-create.ensures.ok in
     let step : View → View → Type 0 = Then one (λ before after. Fails before (create_in before 1 (WritingMeta c.args.stamp) m) after) in
-    let first = reaches_created_at id 1 WritingBlock b c.find.ensures.valid refl refl _ (c.as_str.ensures ∙ c.rbw_block.ensures) _ _ c.in-Ok-create.ensures.ok in
     let reaches = reaches_then id _ _ _ _ _ first
-    (reaches_create_at id 1 (WritingMeta c.args.stamp) m c.find.ensures.valid (is_stamp-IsStamp c.args.stamp c.get-in_range.ensures.in_range) refl _ (c.as_str-2.ensures ∙ c.rbw_meta.ensures) _ _ c.in-Err-Failed-create.ensures.worlds) in
-    takes waiting (step_of stands id c.find.ensures.valid none c.args.stamp c.args.need failed waiting (omega arith) (inr refl))
+    (reaches_create_at id 1 (WritingMeta c.args.stamp) m valid (is_stamp-IsStamp c.args.stamp stamped) refl _ (c.as_str-2.ensures ∙ c.rbw_meta.ensures) _ _ c.in-Err-Failed-create.ensures.worlds) in
+    takes waiting (step_of stands id valid none c.args.stamp c.args.need failed waiting (omega arith) (inr refl))
     (λ e. refl, λ e w. absurd cc, λ e. inr refl, λ e. absurd cc)
-    (λ known old. (
-      start_waits old id c.find.ensures.valid none c.args.stamp c.args.need 1 c.get-in_range.ensures.in_range (omega arith) old.some_volume
-          _ _ _ _ (c.in-Err-Failed-create.ensures.volumes ∙ c.in-Ok-create.ensures.volumes) (same_found _ _ (c.set_state.ensures.found ∙ c.in-Ok-insert.ensures.found)) step true true b m reaches
-          (restated id _ _ _ _ (Waiting true true) c.in-Ok-insert.ensures.added c.set_state.ensures.changed)
-          (λ before after stepped. meta_failed after (subst (λ v. Fails v (create_in v 1 (WritingMeta c.args.stamp) m) after) stepped.1 stepped.2)),
-      calls _ (calls _ (begins _ _) c.in-Ok-create.ensures.time.nothing_else (shown old id c.find.ensures.valid one _ first waiting
-          (waits_passes old id c.find.ensures.valid none c.args.stamp c.args.need 1 c.get-in_range.ensures.in_range (omega arith) old.some_volume one true false b 0 waiting
-          (λ before after stepped. block_failed after (inr stepped)))))
-          c.in-Err-Failed-create.ensures.time.nothing_else (shown old id c.find.ensures.valid step _ reaches waiting
-          (waits_passes old id c.find.ensures.valid none c.args.stamp c.args.need 1 c.get-in_range.ensures.in_range (omega arith) old.some_volume step true true b m waiting
-          (λ before after stepped. meta_failed after (subst (λ v. Fails v (create_in v 1 (WritingMeta c.args.stamp) m) after) stepped.1 stepped.2)))),
+    (λ known old.
+    let placed : IsVolume (g.D.PoolDisks.volume_count c.args.self.now.disks) 1 = (omega arith, old.some_volume) in
+    let half = start_waits old id valid none w stamped placed one (block_left w true ∷ []) (placed, tt) (λ before after stepped. block_failed after (inr stepped)) in
+    let leads = start_waits old id valid none w stamped placed step (block_left w true ∷ meta_left w true ∷ []) (placed, (placed, tt))
+    (λ before after stepped. meta_failed after (subst (λ v. Fails v (create_in v 1 (WritingMeta c.args.stamp) m) after) stepped.1 stepped.2)) in (
+      pool_stands old id valid reaches (c.in-Err-Failed-create.ensures.volumes ∙ c.in-Ok-create.ensures.volumes) leads
+          (changed_to id (block_books map) (block_books made) _ _ _ c.add_created.ensures.books c.make_room.ensures.books
+          (ap (λ l. with_leftover (held_meta waiting_entry) (with_leftover (held_block waiting_entry) (books_with None (Some waiting_entry) l))) none_left)),
+      calls _ (calls _ (begins _ _) c.in-Ok-create.ensures.time.nothing_else (shown old id valid one _ first waiting (waits_passes old id valid none w stamped placed waiting half)))
+          c.in-Err-Failed-create.ensures.time.nothing_else (shown old id valid step _ reaches waiting (waits_passes old id valid none w stamped placed waiting leads)),
     )) stands
 
 pub returns-in-Err-Memory-create-clause-step : goal.returns-in-Err-Memory-create-clause-step
 returns-in-Err-Memory-create-clause-step g c cells stands =
     let id = c.args.id in
-    let none = sym c.find.ensures.entry ∙ c.in_default.is in
+    let map = c.args.self.now.map in
+    let valid = c.find.ensures.valid in
+    let no_entry = sym c.find.ensures.value ∙ c.in_default.is in
+    let fit = stands.fit id valid in
+    let none = nothing_said map id fit no_entry in
+    let made = c.make_room.new.map in
+    let stamped = c.get-in_range.ensures.in_range in
+    let none_left = ap (λ (b : BlockBooks). b.leftovers) (c.make_room.ensures.books id ∙ none) in
     let b = g.D.PoolDisks.next_number c.args.self.now.disks in
-    let same = c.in-Err-Memory-create.ensures.memory (ap Err c.in-Err-Memory-create.field-0-is) in
+    let w = writer_at c.args.stamp 1 c.args.need 0 b 0 in
     let one : View → View → Type 0 = λ before after. after ≡ create_in before 1 WritingBlock b in
+    let waiting_entry : Entry = record { id = id; stamp = c.args.stamp; len = c.args.need; vol = 1; rev = 0; state = Waiting } in
+    let same = c.in-Err-Memory-create.ensures.memory (ap Err c.in-Err-Memory-create.field-0-is) in
+    let first = reaches_created_at id 1 WritingBlock b valid refl refl _ (c.as_str.ensures ∙ c.rbw_block.ensures) _ _ c.in-Ok-create.ensures.ok in
     let step : View → View → Type 0 = Then one Stays in
-    let first = reaches_created_at id 1 WritingBlock b c.find.ensures.valid refl refl _ (c.as_str.ensures ∙ c.rbw_block.ensures) _ _ c.in-Ok-create.ensures.ok in
     let reaches = reaches_then id _ _ _ _ _ first (reaches_same id _ _ same.0) in
-    let starts : (before after : View) → step before after → StartsWrite before None (starter c.args.stamp c.args.need 1 b 0) after
-    (block_books (Some (entry_in id c.args.stamp c.args.need 1 (Waiting true false))) []) waiting =
-    λ before after stepped. subst (λ v. StartsWrite before None (starter c.args.stamp c.args.need 1 b 0) v
-    (block_books (Some (entry_in id c.args.stamp c.args.need 1 (Waiting true false))) []) waiting) (sym (stepped.2 ∙ stepped.1)) meta_memory in
-    takes waiting (step_of stands id c.find.ensures.valid none c.args.stamp c.args.need memory waiting (omega arith) (inr refl))
+    let starts : (before after : View) → step before after → StartsWrite before None w after (books_of (Some (writer_entry w is_waiting)) (block_left w true ∷ []) None) waiting =
+    λ before after stepped. subst (λ v. StartsWrite before None w v (books_of (Some (writer_entry w is_waiting)) (block_left w true ∷ []) None) waiting) (sym (stepped.2 ∙ stepped.1)) meta_memory in
+    takes waiting (step_of stands id valid none c.args.stamp c.args.need memory waiting (omega arith) (inr refl))
     (λ e. absurd cc, λ e w. omega (arith, same.1, c.in-Ok-create.ensures.number), λ e. inr refl, λ e. absurd cc)
-    (λ known old. (
-      start_waits old id c.find.ensures.valid none c.args.stamp c.args.need 1 c.get-in_range.ensures.in_range (omega arith) old.some_volume
-          _ _ _ _ (c.in-Err-Memory-create.ensures.volumes ∙ c.in-Ok-create.ensures.volumes) (same_found _ _ c.in-Ok-insert.ensures.found) step true false b 0 reaches
-          c.in-Ok-insert.ensures.added starts,
-      calls _ (calls _ (begins _ _) c.in-Ok-create.ensures.time.nothing_else (shown old id c.find.ensures.valid one _ first waiting
-          (waits_passes old id c.find.ensures.valid none c.args.stamp c.args.need 1 c.get-in_range.ensures.in_range (omega arith) old.some_volume one true false b 0 waiting
-          (λ before after stepped. block_failed after (inr stepped)))))
-          c.in-Err-Memory-create.ensures.time.nothing_else (shown old id c.find.ensures.valid step _ reaches waiting
-          (waits_passes old id c.find.ensures.valid none c.args.stamp c.args.need 1 c.get-in_range.ensures.in_range (omega arith) old.some_volume step true false b 0 waiting starts)),
+    (λ known old.
+    let placed : IsVolume (g.D.PoolDisks.volume_count c.args.self.now.disks) 1 = (omega arith, old.some_volume) in
+    let half = start_waits old id valid none w stamped placed one (block_left w true ∷ []) (placed, tt) (λ before after stepped. block_failed after (inr stepped)) in
+    let leads = start_waits old id valid none w stamped placed step (block_left w true ∷ []) (placed, tt) starts in (
+      pool_stands old id valid reaches (c.in-Err-Memory-create.ensures.volumes ∙ c.in-Ok-create.ensures.volumes) leads
+          (changed_to id (block_books map) (block_books made) _ _ _ c.add_half_created-in-Err-Memory-create.ensures.books c.make_room.ensures.books
+          (ap (λ l. with_leftover (held_block waiting_entry) (books_with None (Some waiting_entry) l)) none_left)),
+      calls _ (calls _ (begins _ _) c.in-Ok-create.ensures.time.nothing_else (shown old id valid one _ first waiting (waits_passes old id valid none w stamped placed waiting half)))
+          c.in-Err-Memory-create.ensures.time.nothing_else (shown old id valid step _ reaches waiting (waits_passes old id valid none w stamped placed waiting leads)),
     )) stands
 
 pub returns-clause-step : goal.returns-clause-step
 returns-clause-step g c cells stands =
     let id = c.args.id in
-    let none = sym c.find.ensures.entry ∙ c.in_default.is in
+    let map = c.args.self.now.map in
+    let valid = c.find.ensures.valid in
+    let no_entry = sym c.find.ensures.value ∙ c.in_default.is in
+    let fit = stands.fit id valid in
+    let none = nothing_said map id fit no_entry in
+    let made = c.make_room.new.map in
+    let stamped = c.get-in_range.ensures.in_range in
+    let none_left = ap (λ (b : BlockBooks). b.leftovers) (c.make_room.ensures.books id ∙ none) in
     let b = g.D.PoolDisks.next_number c.args.self.now.disks in
     let m = g.D.PoolDisks.next_number c.create.new.self in
-    let old_entries = Rattle.pool_state.specs.Books.entry_at c.args.self.now.map in
+    let w = writer_at c.args.stamp 1 c.args.need 0 b m in
+    let one : View → View → Type 0 = λ before after. after ≡ create_in before 1 WritingBlock b in
+    let first = reaches_created_at id 1 WritingBlock b valid refl refl _ (c.as_str.ensures ∙ c.rbw_block.ensures) _ _ c.in-Ok-create.ensures.ok in
     let is_b : c.number.result ≡ b = c.number.ensures ∙ ap (λ (d : DraftPlace). d.number) c.in-Ok-create.ensures.place in
     let is_m : c.number-2.result ≡ m = c.number-2.ensures ∙ ap (λ (d : DraftPlace). d.number) c.in-Ok-create-2.ensures.place in
-    let one : View → View → Type 0 = λ before after. after ≡ create_in before 1 WritingBlock b in
-    let first = reaches_created_at id 1 WritingBlock b c.find.ensures.valid refl refl _ (c.as_str.ensures ∙ c.rbw_block.ensures) _ _ c.in-Ok-create.ensures.ok in
+    let entry : Entry = record { id = id; stamp = c.args.stamp; len = c.args.need; vol = 1; rev = 0; state = Writing } in
+    let grown : ℕ → ℕ → Grown = λ block meta. record { base = None; reserved = c.args.need; block_no = block; meta_no = meta } in
+    let becomes = changed_to id (block_books map) (block_books made) _ _ (written_books None [] None w) c.add_writer.ensures.books c.make_room.ensures.books
+    (ap (λ l. books_with (Some (grown c.number.result c.number-2.result)) (Some entry) l) none_left
+    ∙ ap (λ n. books_with (Some (grown n c.number-2.result)) (Some entry) []) is_b ∙ ap (λ n. books_with (Some (grown b n)) (Some entry) []) is_m) in
     let reaches = reaches_then id _ _ _ _ _ first
-    (reaches_created_at id 1 (WritingMeta c.args.stamp) m c.find.ensures.valid (is_stamp-IsStamp c.args.stamp c.get-in_range.ensures.in_range) refl _ (c.as_str-2.ensures ∙ c.rbw_meta.ensures) _ _ c.in-Ok-create-2.ensures.ok) in
-    let same_volumes = c.in-Ok-create-2.ensures.volumes ∙ c.in-Ok-create.ensures.volumes in
-    let listed = same_found _ _ (c.change.ensures.found ∙ c.in-Ok-insert.ensures.found) in
-    takes (growing c.args.stamp None [] c.args.need) (step_of stands id c.find.ensures.valid none c.args.stamp c.args.need done (growing c.args.stamp None [] c.args.need) (omega arith) (refl, refl))
+    (reaches_created_at id 1 (WritingMeta c.args.stamp) m valid (is_stamp-IsStamp c.args.stamp stamped) refl _ (c.as_str-2.ensures ∙ c.rbw_meta.ensures) _ _ c.in-Ok-create-2.ensures.ok) in
+    takes (growing c.args.stamp None [] c.args.need) (step_of stands id valid none c.args.stamp c.args.need done (growing c.args.stamp None [] c.args.need) (omega arith) (refl, refl))
     (λ e. absurd cc, λ e w. absurd cc, λ e. absurd cc, λ e. refl)
-    (λ known old. (
-      start_grows old id c.find.ensures.valid none c.args.stamp c.args.need 1 c.get-in_range.ensures.in_range (omega arith) old.some_volume
-          _ _ _ _ same_volumes listed b m reaches
-          (subst (λ n. (other : ℕ) → Rattle.pool_state.specs.Books.entry_at c.change.new.self other ≡ (if other == id then Some (entry_in id c.args.stamp c.args.need 1 (Writing b n)) else old_entries other)) is_m
-          (subst (λ n. (other : ℕ) → Rattle.pool_state.specs.Books.entry_at c.change.new.self other ≡ (if other == id then Some (entry_in id c.args.stamp c.args.need 1 (Writing n c.number-2.result)) else old_entries other)) is_b
-          (overwritten id _ _ _ _ _ c.in-Ok-insert.ensures.added c.change.ensures.changed))),
-      calls _ (calls _ (begins _ _) c.in-Ok-create.ensures.time.nothing_else (shown old id c.find.ensures.valid one _ first (growing c.args.stamp None [] c.args.need)
-          (waits_passes old id c.find.ensures.valid none c.args.stamp c.args.need 1 c.get-in_range.ensures.in_range (omega arith) old.some_volume one true false b 0 (growing c.args.stamp None [] c.args.need)
-          (λ before after stepped. block_failed after (inr stepped)))))
-          c.in-Ok-create-2.ensures.time.nothing_else (shown old id c.find.ensures.valid _ _ reaches (growing c.args.stamp None [] c.args.need)
-          (grows_passes old id c.find.ensures.valid none c.args.stamp c.args.need 1 c.get-in_range.ensures.in_range (omega arith) old.some_volume
-          (g.D.PoolDisks.worlds c.create-2.new.self) (g.D.PoolDisks.volume_count c.create-2.new.self) (Rattle.pool_state.specs.Books.entry_at c.change.new.self) (Rattle.pool_state.specs.Books.found_at c.change.new.self) same_volumes listed b m)),
+    (λ known old.
+    let placed : IsVolume (g.D.PoolDisks.volume_count c.args.self.now.disks) 1 = (omega arith, old.some_volume) in
+    let half = start_waits old id valid none w stamped placed one (block_left w true ∷ []) (placed, tt) (λ before after stepped. block_failed after (inr stepped)) in
+    let leads = start_grows old id valid none w stamped placed in (
+      pool_stands old id valid reaches (c.in-Ok-create-2.ensures.volumes ∙ c.in-Ok-create.ensures.volumes) leads becomes,
+      calls _ (calls _ (begins _ _) c.in-Ok-create.ensures.time.nothing_else (shown old id valid one _ first (growing c.args.stamp None [] c.args.need) (waits_passes old id valid none w stamped placed (growing c.args.stamp None [] c.args.need) half)))
+          c.in-Ok-create-2.ensures.time.nothing_else (shown old id valid _ _ reaches (growing c.args.stamp None [] c.args.need) (passes_end old id valid leads)),
     )) stands
 
--- timed imp
+pub returns-clause-writer : goal.returns-clause-writer
+returns-clause-writer g c =
+    let id = c.args.id in
+    let map = c.args.self.now.map in
+    let none = nothing_said map id (c.requires.stands.1.fit id c.find.ensures.valid) (sym c.find.ensures.value ∙ c.in_default.is) in
+    let none_left = ap (λ (b : BlockBooks). b.leftovers) (c.make_room.ensures.books id ∙ none) in
+    let b = g.D.PoolDisks.next_number c.args.self.now.disks in
+    let m = g.D.PoolDisks.next_number c.create.new.self in
+    let is_b : c.number.result ≡ b = c.number.ensures ∙ ap (λ (d : DraftPlace). d.number) c.in-Ok-create.ensures.place in
+    let is_m : c.number-2.result ≡ m = c.number-2.ensures ∙ ap (λ (d : DraftPlace). d.number) c.in-Ok-create-2.ensures.place in
+    let entry : Entry = record { id = id; stamp = c.args.stamp; len = c.args.need; vol = 1; rev = 0; state = Writing } in
+    let grown : ℕ → ℕ → Grown = λ block meta. record { base = None; reserved = c.args.need; block_no = block; meta_no = meta } in
+    let here : block_books c.add_writer.new.map id ≡ written_books None [] None (writer_at c.args.stamp 1 c.args.need 0 b m) = c.add_writer.ensures.books id
+    ∙ rw (eq-eqb id id refl) (ap (λ l. books_with (Some (grown c.number.result c.number-2.result)) (Some entry) l) none_left
+    ∙ ap (λ n. books_with (Some (grown n c.number-2.result)) (Some entry) []) is_b ∙ ap (λ n. books_with (Some (grown b n)) (Some entry) []) is_m) in
+    started_stands (writer_of g.D.Draft.Draft.place g.D.Draft.Draft.bytes c.new.result) id c.args.stamp 1 c.args.need b m c.find.ensures.valid c.get-in_range.ensures.in_range
+    c.new.ensures.id c.new.ensures.stamp c.new.ensures.vol c.new.ensures.reserved here
+    (ap g.D.Draft.Draft.place c.new.ensures.block ∙ c.in-Ok-create.ensures.place ∙ ap (λ p. draft_at b 1 p) (c.as_str.ensures ∙ c.rbw_block.ensures))
+    (ap (option_map g.D.Draft.Draft.place) c.new.ensures.meta ∙ ap Some (c.in-Ok-create-2.ensures.place ∙ ap (λ p. draft_at m 1 p) (c.as_str-2.ensures ∙ c.rbw_meta.ensures)))
+    (c.new.ensures.pushed _ (λ tells. c.in-Ok-create.ensures.empty ∙ told_empty _ (c.in-Ok-create.ensures.worlds.honest.1 (c.in-Ok-create-2.ensures.worlds.honest.1 tells)))
+    (λ tells. c.in-Ok-create-2.ensures.empty ∙ told_empty _ (c.in-Ok-create-2.ensures.worlds.honest.1 tells)))
 
 pub returns-in-Err-Memory-clause-goes_on : goal.returns-in-Err-Memory-clause-goes_on
 returns-in-Err-Memory-clause-goes_on g c =
