@@ -12,19 +12,16 @@ use Rattle.map_model.specs.Openings.{LeavesBlockFile, MakesCell}
 use Rattle.volume_layout.specs.declared.block_file.BlockFile.{BlockFile}
 use Rattle.volume_layout.specs.declared.block_file.BlockFile.TheVariants.{Block, Meta, WritingBlock, WritingMeta, TemporaryBlock, TemporaryMeta}
 use Rattle.map_model.specs.Slots.{Slot, empty, holds, drafted, is_standing, bytes_in, View, files_in}
-use Rattle.map_model.specs.Stands.{Leftover, IsListed, HasNoPair, IsFinalised, is_final, StateNames, BlockStands}
+use Rattle.map_model.specs.Stands.{IsListed, HasNoPair, IsFinalised, Leftover, EntryState, is_final, is_written, in_doubt, is_waiting, StateNames, Entry, BlockBooks, BlockStands}
+use Rattle.map_model.specs.Tenures.{books_of}
 use Rattle.map_model.proofs.SlotLemmas.{bytes-standing}
 use Rattle.map_model.proofs.OneReading.{ReadsAs-unique}
-use Rattle.pool_state.specs.declared.entry.Entry.{Entry}
-use Rattle.pool_state.specs.declared.entry.State.{State}
-use Rattle.pool_state.specs.declared.entry.State.TheVariants.{Finalised, Writing as InWriting, Unsure, Waiting as InWaiting}
-use Rattle.pool_state.specs.Books.{block_books}
 use Rattle.pool_survey.specs.declared.found.FoundFiles.{FoundFiles}
 use Rattle.pool_survey.specs.Found.{has_block, metas_of, has_writing}
 use Rattle.pool_open.specs.declared.outcome.Outcome.{Outcome}
 use Rattle.pool_open.specs.declared.outcome.Outcome.TheVariants.{Final, Waiting, Absent}
 use Rattle.pool_open.specs.Plan.{outcome_of, kept_files}
-use Rattle.pool_open.specs.Found.{entry_of, IsSizeOf, IsFinalEntry, IsWaitingEntry, SaysOutcome, SaysFound}
+use Rattle.pool_open.specs.Found.{entry_of, IsSizeOf, IsFinalEntry, IsWaitingEntry, SaysNothing, SaysOutcome, SaysFound}
 use Rattle.pool_open.proofs.Slots.{OnePair, replica_of, pair_reads, pair_alone, no_pair_reads, no_pair_alone, absent_stands, final_stands, waiting_stands, lists_block, lists_writing, lists_meta, kept_fits}
 
 -- ---- the three outcomes
@@ -206,36 +203,36 @@ sound_partly M found was now own partly sound spot replica greatest =
 -- ---- the cell
 
 -- the cell of an entry that an opening made, where its block file has these bytes
-abbrev pub cell_in : List ℕ → ℕ → State → Cell
-cell_in bytes stamp Finalised = final (replica_of stamp bytes)
-cell_in bytes stamp (InWriting block_number meta_number) = waiting
-cell_in bytes stamp Unsure = waiting
-cell_in bytes stamp (InWaiting block_left meta_left) = waiting
+abbrev pub cell_in : List ℕ → ℕ → EntryState → Cell
+cell_in bytes stamp is_final = final (replica_of stamp bytes)
+cell_in bytes stamp (is_written base block_number meta_number) = waiting
+cell_in bytes stamp (in_doubt base) = waiting
+cell_in bytes stamp is_waiting = waiting
 
 abbrev pub cell_of : List ℕ → Option Entry → Cell
 cell_of bytes None = absent
 cell_of bytes (Some entry) = cell_in bytes entry.stamp entry.state
 
-module _ (told : Option (List World)) (id : ℕ) (entry : Option Entry) (left : List Leftover) (bytes : List ℕ) where
+module _ (told : Option (List World)) (id : ℕ) (books : BlockBooks) (bytes : List ℕ) where
   -- the cell is what is read, or it waits exactly where a block file stands
-  made_none : (files : BlockFiles) → ReadsAs files None → (LeavesBlockFile files → ⊥) → entry ≡ None → MakesCell files (cell_of bytes entry)
+  made_none : (files : BlockFiles) → ReadsAs files None → (LeavesBlockFile files → ⊥) → SaysNothing books → MakesCell files (cell_of bytes books.entry)
   made_none files reads no_file is = record {
     replica = None;
     reads = reads;
-    made = record { waits = λ there. absurd (no_file there); absent = λ none. ap (cell_of bytes) is };
+    made = record { waits = λ there. absurd (no_file there); absent = λ none. ap (λ (b : BlockBooks). cell_of bytes b.entry) is };
   }
 
-  made_waiting : (files : BlockFiles) (stamp len : ℕ) → ReadsAs files None → LeavesBlockFile files → entry ≡ Some (entry_of id stamp len (InWaiting false false)) →
-      MakesCell files (cell_of bytes entry)
-  made_waiting files stamp len reads there is = record {
+  made_waiting : (files : BlockFiles) (stamp len : ℕ) (left : List Leftover) → ReadsAs files None → LeavesBlockFile files → books ≡ books_of (Some (entry_of stamp len is_waiting)) left None →
+      MakesCell files (cell_of bytes books.entry)
+  made_waiting files stamp len left reads there is = record {
     replica = None;
     reads = reads;
-    made = record { waits = λ some. ap (cell_of bytes) is; absent = λ none. absurd (none there) };
+    made = record { waits = λ some. ap (λ (b : BlockBooks). cell_of bytes b.entry) is; absent = λ none. absurd (none there) };
   }
 
-  made_final : (files : BlockFiles) (stamp len : ℕ) → ReadsAs files (Some (replica_of stamp bytes)) → entry ≡ Some (entry_of id stamp len Finalised) →
-      MakesCell files (cell_of bytes entry)
-  made_final files stamp len reads is = record { replica = Some (replica_of stamp bytes); reads = reads; made = ap (cell_of bytes) is }
+  made_final : (files : BlockFiles) (stamp len : ℕ) → ReadsAs files (Some (replica_of stamp bytes)) → books ≡ books_of (Some (entry_of stamp len is_final)) [] None →
+      MakesCell files (cell_of bytes books.entry)
+  made_final files stamp len reads is = record { replica = Some (replica_of stamp bytes); reads = reads; made = ap (λ (b : BlockBooks). cell_of bytes b.entry) is }
 
   module _ (was : View) where
     -- nothing was found of a block file
@@ -252,37 +249,37 @@ module _ (told : Option (List World)) (id : ℕ) (entry : Option Entry) (left : 
         (1, inr (ap (λ s. is_some (bytes_in s)) (held_slot (was 1 Block) (sym partly.block_is ∙ there) (λ number. partly.settled 1 Block number tt))))
     some_left files partly (inr there) = (1, inl (sym partly.writing_is ∙ there))
 
-    pub made_cell : (found : Option FoundFiles) → Partly found was was → bytes ≡ slot_bytes (was 1 Block) → SaysFound told id found entry left →
-        MakesCell (files_in was) (cell_of bytes entry)
-    made_cell None partly bytes_are says = made_none (files_in was) (reads_partly None was was partly) (none_left None partly refl refl) says.0
+    pub made_cell : (found : Option FoundFiles) → Partly found was was → bytes ≡ slot_bytes (was 1 Block) → SaysFound told id found books →
+        MakesCell (files_in was) (cell_of bytes books.entry)
+    made_cell None partly bytes_are says = made_none (files_in was) (reads_partly None was was partly) (none_left None partly refl refl) says
     made_cell (Some files) partly bytes_are says =
-        let Q : Outcome → Type 0 = λ o. SaysOutcome o told id files entry left in
+        let Q : Outcome → Type 0 = λ o. SaysOutcome o told id files books in
         let R : Outcome → Type 0 = λ o. ReadsAs (files_in was) (read_by o (slot_bytes (was 1 Block))) in
         let reads = reads_partly (Some files) was was partly in
         elim (outcome_cases files) [
           | inl made ↦
-              let said : IsFinalEntry told id made.stamp entry left = subst Q made.is says in
+              let said : IsFinalEntry told id made.stamp books = subst Q made.is says in
               let read : ReadsAs (files_in was) (Some (replica_of made.stamp (slot_bytes (was 1 Block)))) = subst R made.is reads in
               made_final (files_in was) made.stamp said.len
               (subst (λ (b : List ℕ). ReadsAs (files_in was) (Some (replica_of made.stamp b))) (sym bytes_are) read) said.is
           | inr (inl made) ↦
-              let said : IsWaitingEntry id files entry left = subst Q made.is says in
+              let said : IsWaitingEntry told id files books = subst Q made.is says in
               let read : ReadsAs (files_in was) None = subst R made.is reads in
-              made_waiting (files_in was) said.stamp said.len read (some_left files partly made.some) said.is
+              made_waiting (files_in was) said.stamp said.len (kept_files said.stamp said.block_len said.writing_len files) read (some_left files partly made.some) said.is
           | inr (inr made) ↦
-              let said : (entry ≡ None) × (left ≡ []) = subst Q made.is says in
+              let said : SaysNothing books = subst Q made.is says in
               let read : ReadsAs (files_in was) None = subst R made.is reads in
-              made_none (files_in was) read (none_left (Some files) partly made.no_block made.no_writing) said.0
+              made_none (files_in was) read (none_left (Some files) partly made.no_block made.no_writing) said
         ]
 
 -- ---- what stands
 
-module _ (M : List ℕ → Replica → Type 0) (told : Option (List World)) (id : ℕ) (entry : Option Entry) (left : List Leftover) (bytes : List ℕ) (was now : View) where
-  abbrev StandsHere : Option Entry → List Leftover → Type 0
-  StandsHere e l = BlockStands M now (block_books e l) (cell_of bytes e)
+module _ (M : List ℕ → Replica → Type 0) (told : Option (List World)) (id : ℕ) (books : BlockBooks) (bytes : List ℕ) (was now : View) where
+  abbrev StandsHere : BlockBooks → Type 0
+  StandsHere b = BlockStands M now b (cell_of bytes b.entry)
 
-  here : (e : Option Entry) (l : List Leftover) → entry ≡ e → left ≡ l → StandsHere e l → StandsHere entry left
-  here e l entry_is left_is stands = subst (λ (x : Option Entry). StandsHere x left) (sym entry_is) (subst (λ (x : List Leftover). StandsHere e x) (sym left_is) stands)
+  here : (b : BlockBooks) → books ≡ b → StandsHere b → StandsHere books
+  here b is stands = subst (λ (x : BlockBooks). StandsHere x) (sym is) stands
 
   module _ (files : FoundFiles) (partly : Partly (Some files) was now) (leaves : (file : BlockFile) → IsTrue (is_standing (now 1 file)) → Left files file)
       (stamps : (stamp : ℕ) → Contains files.metas.items stamp → IsStamp stamp) (writing_stamps : (stamp : ℕ) → Contains files.writing_metas.items stamp → IsStamp stamp)
@@ -301,13 +298,13 @@ module _ (M : List ℕ → Replica → Type 0) (told : Option (List World)) (id 
     named made TemporaryBlock is = is
     named made (TemporaryMeta stamp) is = is
 
-    final_here : (made : MakesFinal files) → IsFinalEntry told id made.stamp entry left → StandsHere entry left
+    final_here : (made : MakesFinal files) → IsFinalEntry told id made.stamp books → StandsHere books
     final_here made says =
         let pair = final_one_pair (Some files) was now partly made.stamp made.more made.block_there made.metas_are in
         let with_bytes : OnePair now made.stamp bytes (slot_bytes (was 1 (Meta made.stamp))) =
         subst (λ (b : List ℕ). OnePair now made.stamp b (slot_bytes (was 1 (Meta made.stamp)))) (sym bytes_are) pair in
-        here (Some (entry_of id made.stamp says.len Finalised)) [] says.is says.none_left
-        (final_stands M now id made.stamp says.len bytes (slot_bytes (was 1 (Meta made.stamp))) with_bytes (matches made)
+        here (books_of (Some (entry_of made.stamp says.len is_final)) [] None) says.is
+        (final_stands M now made.stamp says.len bytes (slot_bytes (was 1 (Meta made.stamp))) with_bytes (matches made)
         (stamps made.stamp (subst (λ (ms : List ℕ). Contains ms made.stamp) (sym made.metas_are) (0, omega arith, refl)))
         (len_is says.len made.block_there says.size)
         (λ vol file there. let at = at_one vol file there in (sym at.0, named made file at.1))
@@ -322,15 +319,15 @@ module _ (M : List ℕ → Replica → Type 0) (told : Option (List World)) (id 
     held made stamp block_len writing_len TemporaryBlock is = absurd is
     held made stamp block_len writing_len (TemporaryMeta other) is = absurd is
 
-    waiting_here : (made : MakesWaiting files) → IsWaitingEntry id files entry left → StandsHere entry left
+    waiting_here : (made : MakesWaiting files) → IsWaitingEntry told id files books → StandsHere books
     waiting_here made says =
         let kept = kept_files says.stamp says.block_len says.writing_len files in
-        here (Some (entry_of id says.stamp says.len (InWaiting false false))) kept says.is says.held
-        (waiting_stands M now id says.stamp says.len kept says.in_range (lone_no_pair (Some files) was now partly made.lone)
+        here (books_of (Some (entry_of says.stamp says.len is_waiting)) kept None) says.is
+        (waiting_stands M now says.stamp says.len kept says.greatest.in_range (lone_no_pair (Some files) was now partly made.lone)
         (λ vol file there.
         let at = at_one vol file there in
         subst (λ v. IsListed kept v file) (sym at.0) (held made says.stamp says.block_len says.writing_len file at.1))
-        (kept_fits says.stamp says.block_len says.writing_len files id says.len writing_stamps)
+        (kept_fits says.stamp says.block_len says.writing_len files says.len writing_stamps)
         (now_settled (Some files) was now partly))
 
     nothing : (made : MakesAbsent files) (file : BlockFile) → Left files file → ⊥
@@ -341,19 +338,19 @@ module _ (M : List ℕ → Replica → Type 0) (told : Option (List World)) (id 
     nothing made TemporaryBlock is = is
     nothing made (TemporaryMeta stamp) is = is
 
-    pub files_stand : SaysOutcome (outcome_of files) told id files entry left → StandsHere entry left
+    pub files_stand : SaysOutcome (outcome_of files) told id files books → StandsHere books
     files_stand says =
-        let Q : Outcome → Type 0 = λ o. SaysOutcome o told id files entry left in
+        let Q : Outcome → Type 0 = λ o. SaysOutcome o told id files books in
         elim (outcome_cases files) [
           | inl made ↦ final_here made (subst Q made.is says)
           | inr (inl made) ↦ waiting_here made (subst Q made.is says)
           | inr (inr made) ↦
-              let said : (entry ≡ None) × (left ≡ []) = subst Q made.is says in
-              here None [] said.0 said.1 (absent_stands M now (λ vol file there. nothing made file (at_one vol file there).1))
+              let said : SaysNothing books = subst Q made.is says in
+              here (books_of None [] None) said (absent_stands M now (λ vol file there. nothing made file (at_one vol file there).1))
         ]
 
-  pub none_stands : Partly None was now → ((file : BlockFile) → IsTrue (is_standing (now 1 file)) → ⊥) → (entry ≡ None) × (left ≡ []) → StandsHere entry left
+  pub none_stands : Partly None was now → ((file : BlockFile) → IsTrue (is_standing (now 1 file)) → ⊥) → SaysNothing books → StandsHere books
   none_stands partly leaves says =
-      here None [] says.0 says.1 (absent_stands M now (λ vol file there.
+      here (books_of None [] None) says (absent_stands M now (λ vol file there.
       let vol_is = partly.on_one vol file (was_standing None was now partly vol file there) in
       leaves file (subst (λ v. is_standing (now v file) ≡ true) vol_is there)))

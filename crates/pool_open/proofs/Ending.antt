@@ -14,11 +14,10 @@ use Rattle.volume_layout.proofs.Reading.{is_stamp-IsStamp}
 use Rattle.map_model.specs.World.{DraftsAside}
 use Rattle.volume_layout.specs.declared.block_file.BlockFile.TheVariants.{Meta}
 use Rattle.map_model.specs.Slots.{is_standing, slot_of, view_of}
-use Rattle.map_model.specs.Stands.{Leftover}
+use Rattle.map_model.specs.Stands.{BlockBooks}
 use Rattle.map_model.proofs.Aside.{aside_no_draft}
 use Rattle.map_model.proofs.Places.{no_number}
 use Rattle.map_model.proofs.Bridge.{view_slot}
-use Rattle.pool_state.specs.declared.entry.Entry.{Entry}
 use Rattle.pool_survey.specs.declared.found.FoundFiles.{FoundFiles}
 use Rattle.pool_survey.specs.declared.surveying.Survey.{Survey}
 use Rattle.pool_survey.specs.Exact.{IsSurveyOf}
@@ -74,18 +73,18 @@ pub none_told : (P : World → Type 0) → InEachWorld None P
 none_told P world is = (let bad : None ≡ Some is.0 = is.1 in absurd cc)
 
 -- what is left while paths are cleared reads as some world did
-pub meanwhile_before : (survey : Survey) (before first second after : Option (List World)) (volumes : ℕ) (entries : ℕ → Option Entry) (found : ℕ → List Leftover) →
-    IsOpening survey before first second after volumes entries found → Remains before first → (image : Files) → CanLeave first image ⊎ LeftCleared (plan_of survey) second image →
+pub meanwhile_before : (survey : Survey) (before first second after : Option (List World)) (volumes : ℕ) (books : ℕ → BlockBooks) →
+    IsOpening survey before first second after volumes books → Remains before first → (image : Files) → CanLeave first image ⊎ LeftCleared (plan_of survey) second image →
     ReadsAsOne before image
-meanwhile_before survey before first second after volumes entries found opening remains image (inl leaves) =
+meanwhile_before survey before first second after volumes books opening remains image (inl leaves) =
     let is = remains leaves.0 leaves.1 in
     (leaves.0, is, world_reads_back leaves.0 image (opening.aside leaves.0 is) leaves.2)
-meanwhile_before survey before first second after volumes entries found opening remains image (inr left) =
+meanwhile_before survey before first second after volumes books opening remains image (inr left) =
     let was = left.1.0 in
     let is = left.1.1 in (
       was,
-      in_before survey before first second after volumes entries found opening was is,
-      cleared_reads_back survey opening.table was (surveyed survey before first second after volumes entries found opening was is) left.0 image left.1.2 left.2,
+      in_before survey before first second after volumes books opening was is,
+      cleared_reads_back survey opening.table was (surveyed survey before first second after volumes books opening was is) left.0 image left.1.2 left.2,
     )
 
 -- ---- the table

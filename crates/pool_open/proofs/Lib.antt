@@ -4,6 +4,8 @@ pub mod Removals
 pub mod Slots
 pub mod Blocks
 pub mod Adding
+pub mod Rows
+pub mod Greatest
 pub mod Planned
 pub mod Shown
 pub mod Opened

@@ -12,12 +12,10 @@ use Rattle.volume_layout.specs.declared.block_file.BlockFile.{BlockFile}
 use Rattle.volume_layout.specs.declared.block_file.BlockFile.TheVariants.{Block, Meta, WritingBlock, WritingMeta, TemporaryBlock, TemporaryMeta}
 use Rattle.volume_layout.specs.BlockFiles.{path_of, dir_of, name_of, is_file, is_aside_file}
 use Rattle.map_model.specs.Slots.{Slot, empty, drafted, is_standing, slot_at, view_of}
-use Rattle.map_model.specs.Stands.{Leftover, IsFinalised, BlockStands}
+use Rattle.map_model.specs.Stands.{IsFinalised, BlockBooks, BlockStands}
 use Rattle.map_model.proofs.Bridge.{view_slot}
 use Rattle.map_model.proofs.Aside.{aside_not_drafted}
 use Rattle.map_model.proofs.Directories.{path_in_own_dir, file_listed}
-use Rattle.pool_state.specs.declared.entry.Entry.{Entry}
-use Rattle.pool_state.specs.Books.{block_books}
 use Rattle.pool_survey.specs.declared.found.FoundFiles.{FoundFiles}
 use Rattle.pool_survey.specs.declared.surveying.Survey.{Survey}
 use Rattle.pool_survey.specs.Exact.{IsExact, IsSurveyOf}
@@ -196,20 +194,20 @@ module _ (survey : Survey) (table : IsTable survey) where
         left_some TemporaryBlock there = no_temporary TemporaryBlock refl there
         left_some (TemporaryMeta stamp) there = no_temporary (TemporaryMeta stamp) refl there
 
-      module _ (M : List ℕ → Replica → Type 0) (told : Option (List World)) (entry : Option Entry) (left : List Leftover) (bytes : List ℕ)
+      module _ (M : List ℕ → Replica → Type 0) (told : Option (List World)) (books : BlockBooks) (bytes : List ℕ)
           (bytes_are : bytes ≡ slot_bytes (view_of was id 1 Block))
           (len_is : (len : ℕ) → has_block (found_of survey.blocks id) ≡ true → IsSizeOf told (block_path id) len → len ≡ length bytes)
           (matches : (files : FoundFiles) → found_of survey.blocks id ≡ Some files → (made : MakesFinal files) → M (slot_bytes (view_of was id 1 (Meta made.stamp))) (replica_of made.stamp bytes)) where
-        stands_by : (found : Option FoundFiles) → found_of survey.blocks id ≡ found → SaysFound told id found entry left →
-            BlockStands M (view_of now id) (block_books entry left) (cell_of bytes entry)
-        stands_by None is says = none_stands M told id entry left bytes (view_of was id) (view_of now id)
+        stands_by : (found : Option FoundFiles) → found_of survey.blocks id ≡ found → SaysFound told id found books →
+            BlockStands M (view_of now id) books (cell_of bytes books.entry)
+        stands_by None is says = none_stands M told id books bytes (view_of was id) (view_of now id)
             (subst (λ (f : Option FoundFiles). Partly f (view_of was id) (view_of now id)) is partly) (left_none is) says
-        stands_by (Some files) is says = files_stand M told id entry left bytes (view_of was id) (view_of now id) files
+        stands_by (Some files) is says = files_stand M told id books bytes (view_of was id) (view_of now id) files
             (subst (λ (f : Option FoundFiles). Partly f (view_of was id) (view_of now id)) is partly) (left_some files is)
             (metas_in_range id files is) (writing_in_range id files is) bytes_are
             (λ len there size. len_is len (ap has_block is ∙ there) size)
             (λ made. matches files is made) says
 
         -- the block stands
-        pub block_stands : SaysFound told id (found_of survey.blocks id) entry left → BlockStands M (view_of now id) (block_books entry left) (cell_of bytes entry)
+        pub block_stands : SaysFound told id (found_of survey.blocks id) books → BlockStands M (view_of now id) books (cell_of bytes books.entry)
         block_stands says = stands_by (found_of survey.blocks id) refl says

@@ -1,5 +1,5 @@
 -- An opening, from what its calls gave.
-use Rattle.std.proofs.Common.{◌≡◌, ◌≢◌, ◌⊎◌, inl, inr, ℕ, true, false, List, [], ◌∷◌, Option, None, Some, Contains, length, replicate, refl, ap, sym, ◌∙◌, subst, arith, IsTrue, IsSome, IfSome, option_map}
+use Rattle.std.proofs.Common.{◌≡◌, ◌≢◌, ◌⊎◌, inl, inr, ℕ, true, List, [], ◌∷◌, Option, None, Some, Contains, length, replicate, refl, ap, sym, ◌∙◌, subst, arith, IsTrue, IsSome}
 use mathlib.Core.Path.{fun_ext}
 use Rattle.std.specs.Prelude.{IsSomeAnd, is_some}
 use Rattle.std.proofs.lemmas.Bool.{false≢true}
@@ -12,24 +12,21 @@ use Rattle.disk_model.specs.Moments.{AddsOnly}
 use Rattle.disk_model.proofs.Laws.{from_done, some_world, only_one, told_list, is_told}
 use Rattle.volume_layout.specs.Paths.{IsBlockId, block_path}
 use Rattle.map_model.specs.World.{DraftsAside}
-use Rattle.map_model.specs.Cells.{Replica, Cell, Cells}
+use Rattle.map_model.specs.Cells.{Replica, Cells}
 use Rattle.map_model.specs.Copies.{Spot, BlockFiles, IsCopy, IsAlone, IsGreatestCopy, ReadsAs, OneWhole}
 use Rattle.map_model.specs.Openings.{shown_files, MakesCell, ReadsAlike}
 use Rattle.map_model.specs.Sound.{Metas, Knowledge, matching, exactly, Fits, HasSoundCopies, IsSound}
 use Rattle.volume_layout.specs.declared.block_file.BlockFile.TheVariants.{Block, Meta}
 use Rattle.map_model.specs.Slots.{Slot, empty, holds, drafted, is_standing, bytes_in, slot_of, view_of, files_in}
-use Rattle.map_model.specs.Stands.{Leftover, Each, Agrees}
+use Rattle.map_model.specs.Stands.{EntryState, is_final, is_written, in_doubt, is_waiting, Entry, BlockBooks}
+use Rattle.map_model.specs.Tenures.{books_of}
 use Rattle.map_model.proofs.Places.{absent_empty, no_number}
 use Rattle.map_model.proofs.SlotLemmas.{bytes-standing}
 use Rattle.map_model.proofs.Bridge.{view_slot, view_absent, image_files}
 use Rattle.map_model.proofs.Aside.{aside_no_draft}
 use Rattle.map_model.proofs.OneReading.{ReadsAs-unique}
 use Rattle.map_model.proofs.Readings.{KeepsStamp-meta}
-use Rattle.pool_state.specs.declared.entry.Entry.{Entry}
-use Rattle.pool_state.specs.declared.entry.State.{State}
-use Rattle.pool_state.specs.declared.entry.State.TheVariants.{Finalised, Writing as InWriting, Unsure, Waiting as InWaiting}
-use Rattle.pool_state.specs.Books.{book_entry}
-use Rattle.pool_state.specs.Stands.{IsNotWaiting, IsVolume, PoolStands}
+use Rattle.pool_state.specs.Stands.{IsVolume, BooksFit, PoolStands}
 use Rattle.pool_survey.specs.declared.found.FoundFiles.{FoundFiles}
 use Rattle.pool_survey.specs.declared.surveying.Survey.{Survey}
 use Rattle.pool_survey.specs.Exact.{IsSurveyOf}
@@ -37,7 +34,7 @@ use Rattle.pool_survey.specs.Found.{found_of, has_block}
 use Rattle.pool_survey.specs.Remaining.{Remains}
 use Rattle.pool_open.specs.declared.outcome.Outcome.{Outcome}
 use Rattle.pool_open.specs.Plan.{outcome_of, kept_files}
-use Rattle.pool_open.specs.Found.{entry_of, IsSizeOf, IsFinalEntry, IsWaitingEntry, SaysOutcome, SaysFound}
+use Rattle.pool_open.specs.Found.{entry_of, IsSizeOf, IsFinalEntry, IsWaitingEntry, SaysNothing, SaysOutcome, SaysFound}
 use Rattle.pool_open.specs.Clearing.{Clears, AreClear, ComesCleared, LeftCleared}
 use Rattle.pool_open.specs.Outcome.{HasFiles, HasSoundFiles, IsOpened, ReadsBack, Opens}
 use Rattle.pool_open.proofs.Removals.{clears_none}
@@ -63,7 +60,7 @@ entry_len None = 0
 entry_len (Some entry) = entry.len
 
 -- What the calls of an opening gave that was done.
-pub record IsOpening (survey : Survey) (before first second after : Option (List World)) (volumes : ℕ) (entries : ℕ → Option Entry) (found : ℕ → List Leftover) : Type 0 where
+pub record IsOpening (survey : Survey) (before first second after : Option (List World)) (volumes : ℕ) (books : ℕ → BlockBooks) : Type 0 where
   pub one : volumes ≡ 1
   pub call : PicksOne (λ world. IsSurveyOf world 1 survey) (λ w. w) before first
   pub table : IsTable survey
@@ -72,64 +69,58 @@ pub record IsOpening (survey : Survey) (before first second after : Option (List
   pub honest : IsSome first → IsSome second
   pub some : second ≢ Some []
   pub within : StandsWithin volumes second
-  pub says : (id : ℕ) → SaysFound second id (found_of survey.blocks id) (entries id) (found id)
+  pub says : (id : ℕ) → SaysFound second id (found_of survey.blocks id) (books id)
   pub comes : InEachWorld after (ComesCleared (plan_of survey) second)
   pub clear : InEachWorld after (AreClear (plan_of survey))
 
 -- ---- the books
 
-pub record BooksFit (volumes : ℕ) (entry : Option Entry) (left : List Leftover) (cell : Cell) : Type 0 where
-  pub agrees : Agrees (option_map book_entry entry) cell
-  pub placed : IfSome entry (λ e. IsVolume volumes e.vol)
-  pub left_placed : Each (λ leftover. IsVolume volumes leftover.vol) left
-  pub clean : IsNotWaiting entry → left ≡ []
-
-module _ (told : Option (List World)) (volumes id : ℕ) (one : volumes ≡ 1) (entry : Option Entry) (left : List Leftover) (bytes : List ℕ) where
+module _ (told : Option (List World)) (volumes id : ℕ) (one : volumes ≡ 1) (books : BlockBooks) (bytes : List ℕ) where
   first_volume : IsVolume volumes 1
   first_volume = (omega arith, omega (arith, one))
 
-  fit : (e : Option Entry) (l : List Leftover) → entry ≡ e → left ≡ l → BooksFit volumes e l (cell_of bytes e) → BooksFit volumes entry left (cell_of bytes entry)
-  fit e l entry_is left_is fits =
-      subst (λ (x : Option Entry). BooksFit volumes x left (cell_of bytes x)) (sym entry_is)
-      (subst (λ (x : List Leftover). BooksFit volumes e x (cell_of bytes e)) (sym left_is) fits)
+  fit : (b : BlockBooks) → books ≡ b → BooksFit volumes b (cell_of bytes b.entry) → BooksFit volumes books (cell_of bytes books.entry)
+  fit b is fits = subst (λ (x : BlockBooks). BooksFit volumes x (cell_of bytes x.entry)) (sym is) fits
 
-  nothing_fits : (entry ≡ None) × (left ≡ []) → BooksFit volumes entry left (cell_of bytes entry)
-  nothing_fits says = fit None [] says.0 says.1 (record { agrees = tt; placed = tt; left_placed = tt; clean = λ none. refl })
+  nothing_fits : SaysNothing books → BooksFit volumes books (cell_of bytes books.entry)
+  nothing_fits says = fit (books_of None [] None) says (record { agrees = tt; placed = tt; left_placed = tt; clean = λ none. refl; fresh = tt })
 
-  final_fits : (stamp : ℕ) → IsFinalEntry told id stamp entry left →
-      ((len : ℕ) → entry_len entry ≡ len → IsSizeOf told (block_path id) len → len ≡ length bytes) → BooksFit volumes entry left (cell_of bytes entry)
-  final_fits stamp says len_is = fit (Some (entry_of id stamp says.len Finalised)) [] says.is says.none_left (record {
-    agrees = (refl, refl, len_is says.len (ap entry_len says.is) says.size);
+  final_fits : (stamp : ℕ) → IsFinalEntry told id stamp books →
+      ((len : ℕ) → entry_len books.entry ≡ len → IsSizeOf told (block_path id) len → len ≡ length bytes) → BooksFit volumes books (cell_of bytes books.entry)
+  final_fits stamp says len_is = fit (books_of (Some (entry_of stamp says.len is_final)) [] None) says.is (record {
+    agrees = (refl, refl, len_is says.len (ap (λ (b : BlockBooks). entry_len b.entry) says.is) says.size);
     placed = first_volume;
     left_placed = tt;
     clean = λ none. refl;
+    fresh = refl;
   })
 
-  waiting_fits : (files : FoundFiles) → IsWaitingEntry id files entry left → BooksFit volumes entry left (cell_of bytes entry)
-  waiting_fits files says = fit (Some (entry_of id says.stamp says.len (InWaiting false false))) (kept_files says.stamp says.block_len says.writing_len files) says.is says.held (record {
+  waiting_fits : (files : FoundFiles) → IsWaitingEntry told id files books → BooksFit volumes books (cell_of bytes books.entry)
+  waiting_fits files says = fit (books_of (Some (entry_of says.stamp says.len is_waiting)) (kept_files says.stamp says.block_len says.writing_len files) None) says.is (record {
     agrees = refl;
     placed = first_volume;
     left_placed = each_kept (λ leftover. IsVolume volumes leftover.vol) says.stamp says.block_len says.writing_len files first_volume first_volume (λ meta_stamp has. first_volume);
     clean = λ none. absurd none;
+    fresh = refl;
   })
 
   pub books_fit : (found : Option FoundFiles) →
-      ((len : ℕ) → entry_len entry ≡ len → has_block found ≡ true → IsSizeOf told (block_path id) len → len ≡ length bytes) →
-      SaysFound told id found entry left → BooksFit volumes entry left (cell_of bytes entry)
+      ((len : ℕ) → entry_len books.entry ≡ len → has_block found ≡ true → IsSizeOf told (block_path id) len → len ≡ length bytes) →
+      SaysFound told id found books → BooksFit volumes books (cell_of bytes books.entry)
   books_fit None len_is says = nothing_fits says
   books_fit (Some files) len_is says =
-      let Q : Outcome → Type 0 = λ o. SaysOutcome o told id files entry left in
+      let Q : Outcome → Type 0 = λ o. SaysOutcome o told id files books in
       elim (outcome_cases files) [
         | inl made ↦ final_fits made.stamp (subst Q made.is says) (λ len at size. len_is len at made.block_there size)
         | inr (inl made) ↦ waiting_fits files (subst Q made.is says)
         | inr (inr made) ↦ nothing_fits (subst Q made.is says)
       ]
 
-opened_in : (bytes : List ℕ) (stamp : ℕ) (state : State) → IsOpened (cell_in bytes stamp state)
-opened_in bytes stamp Finalised = inr (inl (replica_of stamp bytes, refl))
-opened_in bytes stamp (InWriting block_number meta_number) = inr (inr refl)
-opened_in bytes stamp Unsure = inr (inr refl)
-opened_in bytes stamp (InWaiting block_left meta_left) = inr (inr refl)
+opened_in : (bytes : List ℕ) (stamp : ℕ) (state : EntryState) → IsOpened (cell_in bytes stamp state)
+opened_in bytes stamp is_final = inr (inl (replica_of stamp bytes, refl))
+opened_in bytes stamp (is_written base block_number meta_number) = inr (inr refl)
+opened_in bytes stamp (in_doubt base) = inr (inr refl)
+opened_in bytes stamp is_waiting = inr (inr refl)
 
 opened_by : (bytes : List ℕ) (entry : Option Entry) → IsOpened (cell_of bytes entry)
 opened_by bytes None = inl refl
@@ -234,8 +225,8 @@ module _ (survey : Survey) (table : IsTable survey) (was : World) (surveyed : Is
 
 -- ---- the opening
 
-module _ (survey : Survey) (before first second after : Option (List World)) (volumes : ℕ) (entries : ℕ → Option Entry) (found : ℕ → List Leftover)
-    (opening : IsOpening survey before first second after volumes entries found) where
+module _ (survey : Survey) (before first second after : Option (List World)) (volumes : ℕ) (books : ℕ → BlockBooks)
+    (opening : IsOpening survey before first second after volumes books) where
   picks : (was : World) → IsWorldOf second was → (from : World) × IsWorldOf before from × IsSurveyOf from 1 survey × (was ≡ from)
   picks was is = from_done opening.call was (opening.remains was is)
 
@@ -270,31 +261,31 @@ module _ (survey : Survey) (before first second after : Option (List World)) (vo
 
   -- the cells
   abbrev pub cell_bytes : ℕ → List ℕ
-  cell_bytes id = bytes_told first id (entry_len (entries id))
+  cell_bytes id = bytes_told first id (entry_len (books id).entry)
 
   abbrev pub cells_are : Cells
-  cells_are id = cell_of (cell_bytes id) (entries id)
+  cells_are id = cell_of (cell_bytes id) (books id).entry
 
   bytes_here : (was : World) → IsWorldOf second was → (id : ℕ) → cell_bytes id ≡ slot_bytes (view_of was id 1 Block)
-  bytes_here was is id = ap (λ (told : Option (List World)). bytes_told told id (entry_len (entries id))) (first_is was (opening.remains was is))
+  bytes_here was is id = ap (λ (told : Option (List World)). bytes_told told id (entry_len (books id).entry)) (first_is was (opening.remains was is))
 
   len_here : (was : World) → IsWorldOf second was → (id : ℕ) → IsBlockId id → (len : ℕ) → has_block (found_of survey.blocks id) ≡ true → IsSizeOf second (block_path id) len →
       len ≡ length (cell_bytes id)
   len_here was is id valid len there size =
       size_here survey opening.table was (surveyed was is) id valid second len is there size ∙ sym (ap length (bytes_here was is id))
 
-  len_by : (told : Option (List World)) → first ≡ told → (id : ℕ) → IsBlockId id → (len : ℕ) → entry_len (entries id) ≡ len →
+  len_by : (told : Option (List World)) → first ≡ told → (id : ℕ) → IsBlockId id → (len : ℕ) → entry_len (books id).entry ≡ len →
       has_block (found_of survey.blocks id) ≡ true → IsSizeOf second (block_path id) len → len ≡ length (cell_bytes id)
   len_by None is id valid len at there size =
-      sym (ap (λ (told : Option (List World)). length (bytes_told told id (entry_len (entries id)))) is ∙ length-replicate (entry_len (entries id)) 0 ∙ at)
+      sym (ap (λ (told : Option (List World)). length (bytes_told told id (entry_len (books id).entry))) is ∙ length-replicate (entry_len (books id).entry) 0 ∙ at)
   len_by (Some []) is id valid len at there size =
-      sym (ap (λ (told : Option (List World)). length (bytes_told told id (entry_len (entries id)))) is ∙ length-replicate (entry_len (entries id)) 0 ∙ at)
+      sym (ap (λ (told : Option (List World)). length (bytes_told told id (entry_len (books id).entry))) is ∙ length-replicate (entry_len (books id).entry) 0 ∙ at)
   len_by (Some (world ∷ worlds)) is id valid len at there size =
       let was = some_told (is_told first (world ∷ worlds) is) in
       len_here was.0 was.1 id valid len there size
 
-  fits : (id : ℕ) → IsBlockId id → BooksFit volumes (entries id) (found id) (cells_are id)
-  fits id valid = books_fit second volumes id opening.one (entries id) (found id) (cell_bytes id) (found_of survey.blocks id)
+  fits : (id : ℕ) → IsBlockId id → BooksFit volumes (books id) (cells_are id)
+  fits id valid = books_fit second volumes id opening.one (books id) (cell_bytes id) (found_of survey.blocks id)
       (λ len at there size. len_by first refl id valid len at there size) (opening.says id)
 
   -- the meta files
@@ -317,16 +308,13 @@ module _ (survey : Survey) (before first second after : Option (List World)) (vo
       subst (λ (b : List ℕ). Fits known id (slot_bytes (view_of was id 1 (Meta made.stamp))) (replica_of made.stamp b)) (sym (bytes_here was is id))
       (sound_here survey opening.table was (surveyed was is) id valid (Fits known id) files in_table made (premise was is id valid))
 
-  pub pool_stands : (known : Knowledge) → ((was : World) → IsWorldOf second was → HasFiles known was) → PoolStands after volumes entries found known cells_are
+  pub pool_stands : (known : Knowledge) → ((was : World) → IsWorldOf second was → HasFiles known was) → PoolStands after volumes books known cells_are
   pool_stands known premise = record {
     some_volume = omega (arith, opening.one);
-    agrees = λ id valid. (fits id valid).agrees;
-    placed = λ id valid. (fits id valid).placed;
-    found_placed = λ id valid. (fits id valid).left_placed;
-    clean = λ id valid. (fits id valid).clean;
+    fit = fits;
     blocks = λ now is id valid.
         let from = opening.comes now is in
-        block_stands survey opening.table from.0 now (surveyed from.0 from.1) from.2 id valid (opening.clear now is) (Fits known id) second (entries id) (found id) (cell_bytes id)
+        block_stands survey opening.table from.0 now (surveyed from.0 from.1) from.2 id valid (opening.clear now is) (Fits known id) second (books id) (cell_bytes id)
         (bytes_here from.0 from.1 id) (λ len there size. len_here from.0 from.1 id valid len there size)
         (λ files in_table made. fits_by known premise from.0 from.1 id valid files in_table made)
         (opening.says id);
@@ -336,7 +324,7 @@ module _ (survey : Survey) (before first second after : Option (List World)) (vo
   made_here : (was : World) → IsWorldOf second was → (id : ℕ) → IsBlockId id → MakesCell (shown_files was id) (cells_are id)
   made_here was is id valid =
       subst (λ (files : BlockFiles). MakesCell files (cells_are id)) (sym (shown_view was id (surveyed was is).aside))
-      (made_cell second id (entries id) (found id) (cell_bytes id) (view_of was id) (found_of survey.blocks id)
+      (made_cell second id (books id) (cell_bytes id) (view_of was id) (found_of survey.blocks id)
       (partly survey opening.table was was (surveyed was is) (clears_none (plan_of survey) was) id valid) (bytes_here was is id) (opening.says id))
 
   -- what may be left meanwhile reads as the world that was shown
@@ -350,13 +338,13 @@ module _ (survey : Survey) (before first second after : Option (List World)) (vo
 
   -- THE OPENING
   pub opens : (past since : ℕ → Files → Type 0) → AddsOnly past since (λ image. CanLeave first image ⊎ LeftCleared (plan_of survey) second image) →
-      Opens before after volumes entries found past since
+      Opens before after volumes books past since
   opens past since images = record {
     cells = cells_are;
     metas = metas_are;
     stands = pool_stands (exactly metas_are) metas_here;
     stands_by = λ known premise. pool_stands known (λ was is. premise was (in_before was is));
-    opened = λ id valid. opened_by (cell_bytes id) (entries id);
+    opened = λ id valid. opened_by (cell_bytes id) (books id).entry;
     shown = λ tells.
         let was = some_told (opening.call.honest.0 tells) in
         record {

@@ -11,13 +11,12 @@ use Rattle.map_model.specs.Copies.{Spot, own_spot, IsCopy, IsAlone, IsOnlyMeta, 
 use Rattle.volume_layout.specs.declared.block_file.BlockFile.{BlockFile}
 use Rattle.volume_layout.specs.declared.block_file.BlockFile.TheVariants.{Block, Meta, WritingBlock, WritingMeta}
 use Rattle.map_model.specs.Slots.{holds, drafted, is_standing, bytes_in, View, files_in}
-use Rattle.map_model.specs.Stands.{Leftover, Names, IsListed, Each, LeftoverFits, HasNoPair, IsFinalised, is_final, StateNames, BlockStands}
+use Rattle.map_model.specs.Stands.{Leftover, Names, IsListed, Each, LeftoverFits, HasNoPair, IsFinalised, is_final, is_waiting, StateNames, BlockStands}
+use Rattle.map_model.specs.Tenures.{books_of}
 use Rattle.map_model.proofs.SlotLemmas.{bytes-standing}
 use Rattle.map_model.proofs.Readings.{KeepsStamp-meta, reads_nothing, reads_replica}
 use Rattle.map_model.proofs.KeyLaw.{no_pair_files}
 use Rattle.map_model.proofs.Waiting.{waits_stands}
-use Rattle.pool_state.specs.declared.entry.State.TheVariants.{Finalised, Waiting as InWaiting}
-use Rattle.pool_state.specs.Books.{book_entry, block_books}
 use Rattle.pool_survey.specs.declared.found.FoundFiles.{FoundFiles}
 use Rattle.pool_open.specs.Plan.{held_file, kept_files}
 use Rattle.pool_open.specs.Found.{entry_of}
@@ -70,7 +69,7 @@ no_pair_alone view none spot replica copy = absurd (none spot.vol replica.stamp 
 
 -- nothing stands of an absent block
 pub absent_stands : (M : List ℕ → Replica → Type 0) (view : View) → ((vol : ℕ) (file : BlockFile) → IsTrue (is_standing (view vol file)) → ⊥) →
-    BlockStands M view (block_books None []) absent
+    BlockStands M view (books_of None [] None) absent
 absent_stands M view bare = record {
   agrees = tt;
   content = tt;
@@ -84,12 +83,12 @@ absent_stands M view bare = record {
 }
 
 -- a replica's pair alone
-pub final_stands : (M : List ℕ → Replica → Type 0) (view : View) (id stamp len : ℕ) (bytes content : List ℕ) → OnePair view stamp bytes content →
+pub final_stands : (M : List ℕ → Replica → Type 0) (view : View) (stamp len : ℕ) (bytes content : List ℕ) → OnePair view stamp bytes content →
     M content (replica_of stamp bytes) → IsStamp stamp → len ≡ length bytes →
     ((vol : ℕ) (file : BlockFile) → IsTrue (is_standing (view vol file)) → (1 ≡ vol) × StateNames is_final stamp file) →
     ((vol : ℕ) (file : BlockFile) (number : ℕ) → IsFinalised file → view vol file ≡ drafted number → ⊥) →
-    BlockStands M view (block_books (Some (entry_of id stamp len Finalised)) []) (final (replica_of stamp bytes))
-final_stands M view id stamp len bytes content pair matches valid length_is named settled = record {
+    BlockStands M view (books_of (Some (entry_of stamp len is_final)) [] None) (final (replica_of stamp bytes))
+final_stands M view stamp len bytes content pair matches valid length_is named settled = record {
   agrees = (refl, refl, length_is);
   content = (
     record { block_file = pair.block_file; content = content; meta_file = pair.meta_file; matches = matches },
@@ -109,13 +108,13 @@ no_names v f (inl names) = names
 no_names v f (inr names) = names
 
 -- a block whose files wait
-pub waiting_stands : (M : List ℕ → Replica → Type 0) (view : View) (id stamp len : ℕ) (left : List Leftover) → IsStamp stamp → HasNoPair view →
+pub waiting_stands : (M : List ℕ → Replica → Type 0) (view : View) (stamp len : ℕ) (left : List Leftover) → IsStamp stamp → HasNoPair view →
     ((vol : ℕ) (file : BlockFile) → IsTrue (is_standing (view vol file)) → IsListed left vol file) →
-    Each (LeftoverFits (Some (book_entry (entry_of id stamp len (InWaiting false false))))) left →
+    Each (LeftoverFits (Some (entry_of stamp len is_waiting))) left →
     ((vol : ℕ) (file : BlockFile) (number : ℕ) → IsFinalised file → view vol file ≡ drafted number → ⊥) →
-    BlockStands M view (block_books (Some (entry_of id stamp len (InWaiting false false))) left) waiting
-waiting_stands M view id stamp len left valid none listed fit settled =
-    waits_stands M view (book_entry (entry_of id stamp len (InWaiting false false))) left None (record {
+    BlockStands M view (books_of (Some (entry_of stamp len is_waiting)) left None) waiting
+waiting_stands M view stamp len left valid none listed fit settled =
+    waits_stands M view (entry_of stamp len is_waiting) left None (record {
       state = refl;
       stamp = valid;
       none = none;
@@ -191,9 +190,9 @@ module _ (stamp block_len writing_len : ℕ) (files : FoundFiles) where
       (inr (listed_metas files.writing_metas.items found has)))
 
   -- each fits the entry of the block
-  pub kept_fits : (id len : ℕ) → ((found : ℕ) → Contains files.writing_metas.items found → IsStamp found) →
-      Each (LeftoverFits (Some (book_entry (entry_of id stamp len (InWaiting false false))))) (kept_files stamp block_len writing_len files)
-  kept_fits id len stamps = each_kept (LeftoverFits (Some (book_entry (entry_of id stamp len (InWaiting false false))))) stamp block_len writing_len files
+  pub kept_fits : (len : ℕ) → ((found : ℕ) → Contains files.writing_metas.items found → IsStamp found) →
+      Each (LeftoverFits (Some (entry_of stamp len is_waiting))) (kept_files stamp block_len writing_len files)
+  kept_fits len stamps = each_kept (LeftoverFits (Some (entry_of stamp len is_waiting))) stamp block_len writing_len files
       (record { valid = refl; held = λ is. refl; place = tt })
       (record { valid = refl; held = λ is. refl; place = tt })
       (λ found has. record { valid = is_stamp-IsStamp found (stamps found has); held = λ is. refl; place = tt })

@@ -13,8 +13,7 @@ use Rattle.map_model.specs.Cells.{Replica, Cell, Cells, absent, final, waiting}
 use Rattle.map_model.specs.Copies.{Spot, IsCopy, IsAlone, OneWhole}
 use Rattle.map_model.specs.Openings.{MakesCells, shown_files, ReadsAlike}
 use Rattle.map_model.specs.Sound.{Metas, Knowledge, matching, exactly, Fits, HasSoundCopies, IsSound}
-use Rattle.map_model.specs.Stands.{Leftover}
-use Rattle.pool_state.specs.declared.entry.Entry.{Entry}
+use Rattle.map_model.specs.Stands.{BlockBooks}
 use Rattle.pool_state.specs.declared.pool_record.Pool.{Pool}
 use Rattle.pool_state.specs.Stands.{PoolStands}
 use Rattle.pool_open.specs.declared.opening.OpenFault.{OpenFault}
@@ -85,11 +84,11 @@ IsOpened cell = (cell ≡ absent) ⊎ (((replica : Replica) × (cell ≡ final r
 -- AN OPENING: disks that told some worlds before it and tell others after it, and books which stand for cells. Where the disks
 -- tell, those are the cells of one world, and the meta files are its own; what else is known of all worlds' meta files, is known
 -- by the pool. Each block has one whole copy at most.
-pub record Opens (before after : Option (List World)) (volumes : ℕ) (entries : ℕ → Option Entry) (found : ℕ → List Leftover) (past since : ℕ → Files → Type 0) : Type 0 where
+pub record Opens (before after : Option (List World)) (volumes : ℕ) (books : ℕ → BlockBooks) (past since : ℕ → Files → Type 0) : Type 0 where
   pub cells : Cells
   pub metas : Metas
-  pub stands : PoolStands after volumes entries found (exactly metas) cells
-  pub stands_by : (known : Knowledge) → InEachWorld before (HasFiles known) → PoolStands after volumes entries found known cells
+  pub stands : PoolStands after volumes books (exactly metas) cells
+  pub stands_by : (known : Knowledge) → InEachWorld before (HasFiles known) → PoolStands after volumes books known cells
   pub opened : (id : ℕ) → IsBlockId id → IsOpened (cells id)
   pub shown : IsSome before → Shows before cells metas past since
   pub whole : (image : Files) → CanLeave after image → OneWhole image

@@ -1,11 +1,11 @@
 //! The books that an opening makes.
-ghost use Rattle.std.specs.Prelude.{ℕ, ◌≡◌, ◌≢◌, ◌≤◌, ◌++◌, [], ◌∷◌, None, Some, if◌then◌else◌, IsErrOf, OnOk, IfOk, map};
-ghost use Rattle.volume_layout.specs.Paths as names;
+ghost use Rattle.std.specs.Prelude.{ℕ, ◌≡◌, ◌≤◌, ◌++◌, [], ◌∷◌, if◌then◌else◌, IsTrue, IsErrOf, OnOk, IfOk, map};
 ghost use Rattle.disk_model.specs.Causes.{Rose};
 ghost use Rattle.volume_layout.specs.declared.block_file.BlockFile.TheVariants.{Block, WritingBlock, WritingMeta};
-ghost use Rattle.pool_state.specs.Books.{entry_at, found_at};
+ghost use Rattle.replica_map.specs.Books.{writers};
+ghost use Rattle.pool_state.specs.Books.{block_books};
 ghost use Rattle.pool_survey.specs.Found.{AreBlocks, found_of};
-ghost use Rattle.pool_open.specs.Found.{IsSizeOf, SaysOutcome, SaysFound, IsWaitingEntry, IsFinalEntry, AddsFiles, KeepsOthers, SaysNothing};
+ghost use Rattle.pool_open.specs.Found.{IsSizeOf, IsGreatestStamp, SaysOutcome, SaysFound, IsWaitingEntry, SaysNothing, gathered, row_of, AddsFinal, AddsRow, MayAddRow, AddsLeftovers, KeepsOthers};
 ghost use Rattle.pool_open.specs.Looking.{OnlyLooks};
 ghost use Rattle.pool_open.specs.Plan.{held_file, kept_files, outcome_of};
 
@@ -13,7 +13,7 @@ use crate::clearing::VOLUME;
 use crate::outcome::{Outcome, decide};
 use crate::paths::block_id;
 use disk_model::{DiskError, Failed, PoolDisks};
-use pool_state::{Entry, Leftover, ReplicaMap, State};
+use pool_state::{Entry, Leftover, ReplicaMap, Row, State};
 use pool_survey::FoundFiles;
 use std::alloc::{AllocError, Global};
 use std::collections::BTreeMap;
@@ -36,6 +36,7 @@ fn size_of<D: PoolDisks>(disks: &mut D, path: &str) -> Result<u64, DiskError>
 /// The size of a file that may stand.
 fn size_where<D: PoolDisks>(disks: &mut D, stands: bool, path: &str) -> Result<u64, DiskError>
     requires some_volume { 1 ≤ D.volume_count disks.old }
+    ensures size { IsTrue stands → IfOk result (IsSizeOf (D.worlds disks.new) path.now) }
     ensures looks { OnlyLooks D.PoolDisks disks.old disks.new }
     ensures failed { IsErrOf result DiskError.Failed → Rose (D.faults disks.old) (D.faults disks.new) }
 {
@@ -44,7 +45,7 @@ fn size_where<D: PoolDisks>(disks: &mut D, stands: bool, path: &str) -> Result<u
 
 /// The greatest of these stamps, or 1.
 fn greatest_stamp(stamps: &[Stamp]) -> Stamp
-    ensures in_range { names.IsStamp result }
+    ensures { IsGreatestStamp stamps.now result }
 {
     let mut greatest = 1;
     for stamp in stamps {
@@ -58,53 +59,76 @@ fn greatest_stamp(stamps: &[Stamp]) -> Stamp
     }
 }
 
+/// Adds the row of an entry, beside which nothing is kept.
+fn push_row(
+    rows: &mut Vec<Row>,
+    id: BlockId,
+    stamp: Stamp,
+    len: u64,
+    state: State,
+) -> Result<(), AllocError>
+    ensures { OnOk result (rows.new.items ≡ rows.old.items ++ row_of id stamp len state ∷ []) }
+{
+    let entry = Entry {
+        id,
+        stamp,
+        len,
+        vol: VOLUME,
+        rev: 0,
+        state,
+    };
+    rows.push(Row { entry, grown: None })?;
+    Ok(())
+}
+
 /// Adds a file of a block that waits.
 fn push_file(
-    found: &mut Vec<Leftover>,
+    leftovers: &mut Vec<Leftover>,
     id: BlockId,
     stamp: Stamp,
     len: u64,
     file: BlockFile,
 ) -> Result<(), AllocError>
-    ensures { OnOk result (AddsFiles id (held_file stamp len file ∷ []) found.old.items found.new.items) }
+    ensures { OnOk result (AddsLeftovers id (held_file stamp len file ∷ []) leftovers.old.items leftovers.new.items) }
 {
-    found.push(Leftover {
+    leftovers.push(Leftover {
         id,
         stamp,
         vol: VOLUME,
         file,
         len,
+        held: true,
     })?;
     Ok(())
 }
 
 /// Adds the metas of a block that waits, under `current/rbw`.
 fn push_metas(
-    found: &mut Vec<Leftover>,
+    leftovers: &mut Vec<Leftover>,
     id: BlockId,
     stamp: Stamp,
     metas: &[Stamp],
 ) -> Result<(), AllocError>
-    ensures { OnOk result (AddsFiles id (map (λ meta. held_file stamp 0 (WritingMeta meta)) metas.now) found.old.items found.new.items) }
+    ensures { OnOk result (AddsLeftovers id (map (λ meta. held_file stamp 0 (WritingMeta meta)) metas.now) leftovers.old.items leftovers.new.items) }
 {
     for meta in metas {
-        push_file(found, id, stamp, 0, BlockFile::WritingMeta(*meta))?;
+        push_file(leftovers, id, stamp, 0, BlockFile::WritingMeta(*meta))?;
     }
     Ok(())
 }
 
 /// Adds the block file of a block that waits, where it stands.
 fn push_block(
-    found: &mut Vec<Leftover>,
+    leftovers: &mut Vec<Leftover>,
     id: BlockId,
     stamp: Stamp,
     len: u64,
     stands: bool,
 ) -> Result<(), AllocError>
-    ensures { OnOk result (AddsFiles id (if stands then held_file stamp len Block ∷ [] else []) found.old.items found.new.items) }
+    ensures { OnOk result (AddsLeftovers id (if stands then held_file stamp len Block ∷ [] else []) leftovers.old.items leftovers.new.items) }
 {
     if stands {
-        push_file(found, id, stamp, len, BlockFile::Block)
+        push_file(leftovers, id, stamp, len, BlockFile::Block)
     } else {
         Ok(())
     }
@@ -112,49 +136,51 @@ fn push_block(
 
 /// Adds what was being written of a block that waits, where its block file stands.
 fn push_writing(
-    found: &mut Vec<Leftover>,
+    leftovers: &mut Vec<Leftover>,
     id: BlockId,
     stamp: Stamp,
     len: u64,
     files: &FoundFiles,
 ) -> Result<(), AllocError>
-    ensures { OnOk result (AddsFiles id
+    ensures { OnOk result (AddsLeftovers id
         (if files.now.writing then held_file stamp len WritingBlock ∷ map (λ meta. held_file stamp 0 (WritingMeta meta)) files.now.writing_metas.items else [])
-        found.old.items found.new.items) }
+        leftovers.old.items leftovers.new.items) }
 {
     if !files.writing {
         return Ok(());
     }
-    push_file(found, id, stamp, len, BlockFile::WritingBlock)?;
-    push_metas(found, id, stamp, &files.writing_metas)
+    push_file(leftovers, id, stamp, len, BlockFile::WritingBlock)?;
+    push_metas(leftovers, id, stamp, &files.writing_metas)
 }
 
 /// Adds the files of a block that waits.
 fn push_kept(
-    found: &mut Vec<Leftover>,
+    leftovers: &mut Vec<Leftover>,
     id: BlockId,
     stamp: Stamp,
     block_len: u64,
     writing_len: u64,
     files: &FoundFiles,
 ) -> Result<(), AllocError>
-    ensures { OnOk result (AddsFiles id (kept_files stamp block_len writing_len files.now) found.old.items found.new.items) }
+    ensures { OnOk result (AddsLeftovers id (kept_files stamp block_len writing_len files.now) leftovers.old.items leftovers.new.items) }
 {
-    push_block(found, id, stamp, block_len, files.block)?;
-    push_writing(found, id, stamp, writing_len, files)
+    push_block(leftovers, id, stamp, block_len, files.block)?;
+    push_writing(leftovers, id, stamp, writing_len, files)
 }
 
 /// Adds a block that waits, and its files.
 fn add_waiting<D: PoolDisks>(
     disks: &mut D,
-    books: &mut ReplicaMap,
+    rows: &mut Vec<Row>,
+    leftovers: &mut Vec<Leftover>,
     id: BlockId,
     files: &FoundFiles,
 ) -> Result<(), DiskError>
     requires some_volume { 1 ≤ D.volume_count disks.old }
-    requires nothing { SaysNothing id books.old }
-    ensures says { OnOk result (IsWaitingEntry id files.now (entry_at books.new id) (found_at books.new id)) }
-    ensures others { OnOk result (KeepsOthers id books.old books.new) }
+    requires nothing { SaysNothing (block_books (gathered rows.old.items leftovers.old.items) id) }
+    ensures says { OnOk result (IsWaitingEntry (D.worlds disks.new) id files.now (block_books (gathered rows.new.items leftovers.new.items) id)) }
+    ensures others { OnOk result (KeepsOthers id (gathered rows.old.items leftovers.old.items) (gathered rows.new.items leftovers.new.items)) }
+    ensures row { OnOk result (AddsRow id rows.old.items rows.new.items) }
     ensures looks { OnlyLooks D.PoolDisks disks.old disks.new }
     ensures failed { IsErrOf result DiskError.Failed → Rose (D.faults disks.old) (D.faults disks.new) }
 {
@@ -166,67 +192,53 @@ fn add_waiting<D: PoolDisks>(
     } else {
         block_len
     };
-    books.insert(Entry {
-        id,
-        stamp,
-        len,
-        vol: VOLUME,
-        state: State::Waiting {
-            block: false,
-            meta: false,
-        },
-    })?;
-    push_kept(&mut books.found, id, stamp, block_len, writing_len, files)?;
+    push_row(rows, id, stamp, len, State::Waiting)?;
+    push_kept(leftovers, id, stamp, block_len, writing_len, files)?;
     Ok(())
 }
 
 /// Adds a replica, with the length of its block file.
 fn add_final<D: PoolDisks>(
     disks: &mut D,
-    books: &mut ReplicaMap,
+    rows: &mut Vec<Row>,
     id: BlockId,
     stamp: Stamp,
 ) -> Result<(), DiskError>
     requires some_volume { 1 ≤ D.volume_count disks.old }
-    requires nothing { SaysNothing id books.old }
-    ensures says { OnOk result (IsFinalEntry (D.worlds disks.new) id stamp (entry_at books.new id) (found_at books.new id)) }
-    ensures others { OnOk result (KeepsOthers id books.old books.new) }
+    ensures adds { OnOk result (AddsFinal (D.worlds disks.new) id stamp rows.old.items rows.new.items) }
     ensures looks { OnlyLooks D.PoolDisks disks.old disks.new }
     ensures failed { IsErrOf result DiskError.Failed → Rose (D.faults disks.old) (D.faults disks.new) }
 {
     let len = size_of(disks, block_path(id).as_str())?;
-    books.insert(Entry {
-        id,
-        stamp,
-        len,
-        vol: VOLUME,
-        state: State::Finalised,
-    })?;
+    push_row(rows, id, stamp, len, State::Finalised)?;
     Ok(())
 }
 
 /// Adds what the opening makes of a block's files.
 fn add_block<D: PoolDisks>(
     disks: &mut D,
-    books: &mut ReplicaMap,
+    rows: &mut Vec<Row>,
+    leftovers: &mut Vec<Leftover>,
     id: BlockId,
     files: &FoundFiles,
 ) -> Result<(), DiskError>
     requires some_volume { 1 ≤ D.volume_count disks.old }
-    requires nothing { SaysNothing id books.old }
-    ensures says { OnOk result (SaysOutcome (outcome_of files.now) (D.worlds disks.new) id files.now (entry_at books.new id) (found_at books.new id)) }
-    ensures others { OnOk result (KeepsOthers id books.old books.new) }
+    requires nothing { SaysNothing (block_books (gathered rows.old.items leftovers.old.items) id) }
+    ensures says { OnOk result (SaysOutcome (outcome_of files.now) (D.worlds disks.new) id files.now
+        (block_books (gathered rows.new.items leftovers.new.items) id)) }
+    ensures others { OnOk result (KeepsOthers id (gathered rows.old.items leftovers.old.items) (gathered rows.new.items leftovers.new.items)) }
+    ensures row { OnOk result (MayAddRow id rows.old.items rows.new.items) }
     ensures looks { OnlyLooks D.PoolDisks disks.old disks.new }
     ensures failed { IsErrOf result DiskError.Failed → Rose (D.faults disks.old) (D.faults disks.new) }
 {
     match decide(files) {
-        Outcome::Final(stamp) => add_final(disks, books, id, stamp),
-        Outcome::Waiting => add_waiting(disks, books, id, files),
+        Outcome::Final(stamp) => add_final(disks, rows, id, stamp),
+        Outcome::Waiting => add_waiting(disks, rows, leftovers, id, files),
         Outcome::Absent => Ok(()),
     }
 }
 
-/// The books of these blocks: their entries in ascending id, and the files of those that wait.
+/// The books of these blocks: their entries in ascending id, and the files of those that wait. No entry has a writer.
 pub fn make_books<D: PoolDisks>(
     alloc: Global,
     disks: &mut D,
@@ -234,14 +246,15 @@ pub fn make_books<D: PoolDisks>(
 ) -> Result<ReplicaMap, DiskError>
     requires some_volume { 1 ≤ D.volume_count disks.old }
     requires blocks { AreBlocks blocks.now }
-    ensures says { IfOk result (λ books. (id : ℕ) →
-        SaysFound (D.worlds disks.new) id (found_of blocks.now id) (entry_at books id) (found_at books id)) }
+    ensures says { IfOk result (λ books. (id : ℕ) → SaysFound (D.worlds disks.new) id (found_of blocks.now id) (block_books books id)) }
+    ensures idle { IfOk result (λ books. writers books ≡ 0) }
     ensures looks { OnlyLooks D.PoolDisks disks.old disks.new }
     ensures failed { IsErrOf result DiskError.Failed → Rose (D.faults disks.old) (D.faults disks.new) }
 {
-    let mut books = ReplicaMap::make(alloc);
+    let mut rows = Vec::with_capacity(alloc, blocks.len())?;
+    let mut leftovers = Vec::new(alloc);
     for (id, files) in blocks {
-        add_block(disks, &mut books, block_id(*id), files)?;
+        add_block(disks, &mut rows, &mut leftovers, block_id(*id), files)?;
     }
-    Ok(books)
+    Ok(ReplicaMap::from_rows(alloc, rows, leftovers)?)
 }

@@ -1,5 +1,5 @@
 //! Removing what stands at some paths.
-ghost use Rattle.std.specs.Prelude.{◌≡◌, ◌≤◌, IsOk, IsErr, OnOk};
+ghost use Rattle.std.specs.Prelude.{◌≤◌, IsErr, OnOk};
 ghost use Rattle.disk_model.specs.Causes.{Rose};
 ghost use Rattle.disk_model.specs.Moments.{AddsOnly};
 ghost use Rattle.disk_model.specs.Told.{InEachWorld};

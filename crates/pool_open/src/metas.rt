@@ -1,5 +1,5 @@
 //! Blocks with several metas.
-ghost use Rattle.std.specs.Prelude.{ℕ, ◌≡◌, ◌≤◌, ◌<◌, Some, None, IfSome, IfNone, All, length};
+ghost use Rattle.std.specs.Prelude.{◌≡◌, ◌≤◌, ◌<◌, Some, None, IfSome, IfNone, All, length};
 ghost use Rattle.pool_survey.specs.declared.found.FoundFiles.{FoundFiles};
 ghost use Rattle.pool_survey.specs.Found.{found_of};
 

@@ -1,12 +1,12 @@
 //! The opening of a pool.
-ghost use Rattle.std.specs.Prelude.{◌≡◌, [], ◌∷◌, Some, Err, IfOk, IsOk, OnOk, IsErrOf};
+ghost use Rattle.std.specs.Prelude.{◌≡◌, Some, Err, IfOk, IsOk, OnOk, IsErrOf};
 ghost use Rattle.disk_model.specs.Causes.{Rose};
 ghost use Rattle.disk_model.specs.Files.{Files};
 ghost use Rattle.disk_model.specs.Moments.{AddsOnly};
 ghost use Rattle.disk_model.specs.Told.{InEachWorld, CanLeave};
 ghost use Rattle.disk_model.specs.Marks.{GoesOn};
 ghost use Rattle.map_model.specs.World.{DraftsAside};
-ghost use Rattle.pool_state.specs.Books.{entry_at, found_at};
+ghost use Rattle.pool_state.specs.Books.{block_books};
 ghost use Rattle.pool_open.specs.Remaining.{Remains};
 ghost use Rattle.pool_open.specs.Outcome.{disks_of, HoldsImage, HasTwoMetas, Opens, ReadsAsOne};
 
@@ -46,7 +46,7 @@ pub fn open_pool<D: PoolDisks>(alloc: Global, disks: D) -> Result<Pool<D>, OpenF
     requires aside { InEachWorld (D.worlds disks) DraftsAside }
     requires one_volume { D.volume_count disks ≡ 1 }
     ensures opened { IfOk result (λ pool. Opens (D.worlds disks) (D.worlds pool.disks) (D.volume_count pool.disks)
-        (entry_at pool.map) (found_at pool.map) (D.left_since disks) (D.left_since pool.disks)) }
+        (block_books pool.map) (D.left_since disks) (D.left_since pool.disks)) }
     ensures images { AddsOnly (D.left_since disks) (D.left_since (disks_of result)) (ReadsAsOne (D.worlds disks)) }
     ensures goes_on { GoesOn D.PoolDisks disks (disks_of result) }
     ensures failed { (d : _) → result ≡ Err (OpenFault.Failed d) → Rose (D.faults disks) (D.faults d) }
@@ -78,7 +78,7 @@ pub fn reopen_pool<D: PoolDisks>(alloc: Global, pool: &mut Pool<D>) -> Result<()
     requires aside { InEachWorld (D.worlds pool.old.disks) DraftsAside }
     requires one_volume { D.volume_count pool.old.disks ≡ 1 }
     ensures opened { OnOk result (Opens (D.worlds pool.old.disks) (D.worlds pool.new.disks) (D.volume_count pool.new.disks)
-        (entry_at pool.new.map) (found_at pool.new.map) (D.left_since pool.old.disks) (D.left_since pool.new.disks)) }
+        (block_books pool.new.map) (D.left_since pool.old.disks) (D.left_since pool.new.disks)) }
     ensures images { AddsOnly (D.left_since pool.old.disks) (D.left_since pool.new.disks) (ReadsAsOne (D.worlds pool.old.disks)) }
     ensures goes_on { GoesOn D.PoolDisks pool.old.disks pool.new.disks }
     ensures failed { IsErrOf result ReopenFault.Failed → Rose (D.faults pool.old.disks) (D.faults pool.new.disks) }

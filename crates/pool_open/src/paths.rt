@@ -1,5 +1,5 @@
 //! The paths that an opening clears.
-ghost use Rattle.std.specs.Prelude.{ℕ, ◌≡◌, ◌++◌, [], ◌∷◌, if◌then◌else◌, map, codes, OnOk, IfOk};
+ghost use Rattle.std.specs.Prelude.{◌≡◌, ◌++◌, [], ◌∷◌, if◌then◌else◌, map, codes, OnOk, IfOk};
 ghost use Rattle.std.specs.List.{flat_map};
 ghost use Rattle.volume_layout.specs.Paths as names;
 ghost use Rattle.disk_model.specs.Files.{path_in};

@@ -13,7 +13,7 @@ use std::test::Fail;
 /// What an opening answered.
 #[derive(Clone, Copy, Debug, PartialEq, Eq)]
 enum Answer {
-    /// A pool with so many entries, and so many files that it found of waiting blocks.
+    /// A pool with so many entries, and so many leftovers.
     Opened(usize, usize),
     Failed,
     Memory,
@@ -47,7 +47,7 @@ fn opened<D: PoolDisks>(alloc: Global, disks: D) -> Answer
     requires one_volume { D.volume_count disks ≡ 1 }
 {
     match open_pool(alloc, disks) {
-        Ok(pool) => Opened(pool.map.entries.len(), pool.map.found.len()),
+        Ok(pool) => Opened(pool.map.entry_count(), pool.map.leftover_count()),
         Err(OpenFault::Failed(_)) => Answer::Failed,
         Err(OpenFault::Memory(_)) => Answer::Memory,
         Err(OpenFault::Later(_)) => Answer::Later,

@@ -1,7 +1,7 @@
 use Rattle.std.proofs.Common.{◌≡◌, ◌⊎◌, ◌∙◌, ℕ, List, None, inl, inr, ap, sym, subst}
 use Rattle.disk_model.specs.Told.{InEachWorld, StandsWithin, CanLeave}
 use Rattle.disk_model.specs.Moments.{AddsOnly}
-use Rattle.pool_state.specs.Books.{entry_at, found_at}
+use Rattle.pool_state.specs.Books.{block_books}
 use Rattle.pool_open.specs.Plan.{texts}
 use Rattle.pool_open.specs.Clearing.{AreClear, ComesCleared, LeftCleared}
 use Rattle.pool_open.proofs.Looks.{looks_then}
@@ -67,7 +67,7 @@ returns-in-Ok-clear_paths-clause-opened g c =
     paths_are c.clear_paths.ensures.images in
     let images : AddsOnly (g.D.PoolDisks.left_since c.args.pool.now.disks) (g.D.PoolDisks.left_since c.clear_paths.new.disks) (λ image. CanLeave first image ⊎ LeftCleared (plan_of survey) second image) =
     joined survey first second (λ t image left. c.survey_volume.ensures.time.nothing_else t image left) c.make_books.ensures.looks.images cleared in
-    let opening : IsOpening survey before first second (g.D.PoolDisks.worlds c.clear_paths.new.disks) (g.D.PoolDisks.volume_count c.clear_paths.new.disks) (entry_at c.in-Ok-make_books.map) (found_at c.in-Ok-make_books.map) = record {
+    let opening : IsOpening survey before first second (g.D.PoolDisks.worlds c.clear_paths.new.disks) (g.D.PoolDisks.volume_count c.clear_paths.new.disks) (block_books c.in-Ok-make_books.map) = record {
       one = c.clear_paths.ensures.goes_on.volume_count ∙ c.make_books.ensures.looks.goes_on.volume_count ∙ c.survey_volume.ensures.volumes ∙ c.requires.one_volume;
       call = c.in-Ok.ensures.ok;
       table = table;
@@ -80,8 +80,7 @@ returns-in-Ok-clear_paths-clause-opened g c =
       comes = subst (λ (paths : List (List ℕ)). InEachWorld (g.D.PoolDisks.worlds c.clear_paths.new.disks) (ComesCleared paths second)) paths_are c.clear_paths.ensures.some;
       clear = subst (λ (paths : List (List ℕ)). InEachWorld (g.D.PoolDisks.worlds c.clear_paths.new.disks) (AreClear paths)) paths_are c.in-Ok-clear_paths.ensures.all;
     } in
-    opens survey before first second (g.D.PoolDisks.worlds c.clear_paths.new.disks) (g.D.PoolDisks.volume_count c.clear_paths.new.disks) (entry_at c.in-Ok-make_books.map)
-    (found_at c.in-Ok-make_books.map) opening (g.D.PoolDisks.left_since c.args.pool.now.disks) (g.D.PoolDisks.left_since c.clear_paths.new.disks) images
+    opens survey before first second (g.D.PoolDisks.worlds c.clear_paths.new.disks) (g.D.PoolDisks.volume_count c.clear_paths.new.disks) (block_books c.in-Ok-make_books.map) opening (g.D.PoolDisks.left_since c.args.pool.now.disks) (g.D.PoolDisks.left_since c.clear_paths.new.disks) images
 
 pub returns-in-Ok-clear_paths-clause-images : goal.returns-in-Ok-clear_paths-clause-images
 returns-in-Ok-clear_paths-clause-images g c t image left =
@@ -95,7 +94,7 @@ returns-in-Ok-clear_paths-clause-images g c t image left =
     paths_are c.clear_paths.ensures.images in
     let images : AddsOnly (g.D.PoolDisks.left_since c.args.pool.now.disks) (g.D.PoolDisks.left_since c.clear_paths.new.disks) (λ image. CanLeave first image ⊎ LeftCleared (plan_of survey) second image) =
     joined survey first second (λ t image left. c.survey_volume.ensures.time.nothing_else t image left) c.make_books.ensures.looks.images cleared in
-    let opening : IsOpening survey before first second None (g.D.PoolDisks.volume_count c.make_books.new.disks) (entry_at c.in-Ok-make_books.map) (found_at c.in-Ok-make_books.map) = record {
+    let opening : IsOpening survey before first second None (g.D.PoolDisks.volume_count c.make_books.new.disks) (block_books c.in-Ok-make_books.map) = record {
       one = c.make_books.ensures.looks.goes_on.volume_count ∙ c.survey_volume.ensures.volumes ∙ c.requires.one_volume;
       call = c.in-Ok.ensures.ok;
       table = table;
@@ -110,8 +109,7 @@ returns-in-Ok-clear_paths-clause-images g c t image left =
     } in
     elim (images t image left) [
       | inl earlier ↦ inl earlier
-      | inr meanwhile ↦ inr (meanwhile_before survey before first second None (g.D.PoolDisks.volume_count c.make_books.new.disks) (entry_at c.in-Ok-make_books.map)
-          (found_at c.in-Ok-make_books.map) opening c.survey_volume.ensures.looks image meanwhile)
+      | inr meanwhile ↦ inr (meanwhile_before survey before first second None (g.D.PoolDisks.volume_count c.make_books.new.disks) (block_books c.in-Ok-make_books.map) opening c.survey_volume.ensures.looks image meanwhile)
     ]
 
 pub returns-clause-images : goal.returns-clause-images
@@ -126,7 +124,7 @@ returns-clause-images g c t image left =
     paths_are c.clear_paths.ensures.images in
     let images : AddsOnly (g.D.PoolDisks.left_since c.args.pool.now.disks) (g.D.PoolDisks.left_since c.clear_paths.new.disks) (λ image. CanLeave first image ⊎ LeftCleared (plan_of survey) second image) =
     joined survey first second (λ t image left. c.survey_volume.ensures.time.nothing_else t image left) c.make_books.ensures.looks.images cleared in
-    let opening : IsOpening survey before first second None (g.D.PoolDisks.volume_count c.make_books.new.disks) (entry_at c.in-Ok-make_books.map) (found_at c.in-Ok-make_books.map) = record {
+    let opening : IsOpening survey before first second None (g.D.PoolDisks.volume_count c.make_books.new.disks) (block_books c.in-Ok-make_books.map) = record {
       one = c.make_books.ensures.looks.goes_on.volume_count ∙ c.survey_volume.ensures.volumes ∙ c.requires.one_volume;
       call = c.in-Ok.ensures.ok;
       table = table;
@@ -141,8 +139,7 @@ returns-clause-images g c t image left =
     } in
     elim (images t image left) [
       | inl earlier ↦ inl earlier
-      | inr meanwhile ↦ inr (meanwhile_before survey before first second None (g.D.PoolDisks.volume_count c.make_books.new.disks) (entry_at c.in-Ok-make_books.map)
-          (found_at c.in-Ok-make_books.map) opening c.survey_volume.ensures.looks image meanwhile)
+      | inr meanwhile ↦ inr (meanwhile_before survey before first second None (g.D.PoolDisks.volume_count c.make_books.new.disks) (block_books c.in-Ok-make_books.map) opening c.survey_volume.ensures.looks image meanwhile)
     ]
 
 pub returns-in-Ok-clear_paths-clause-one_meta : goal.returns-in-Ok-clear_paths-clause-one_meta
@@ -179,3 +176,6 @@ returns-clause-goes_on g c =
     let looks = looked g.D.PoolDisks c.args.pool.now.disks c.survey_volume.new.disks
     c.survey_volume.ensures.looks c.survey_volume.ensures.honest c.survey_volume.ensures.cause.later c.survey_volume.ensures.absences c.survey_volume.ensures.numbers c.survey_volume.ensures.volumes c.survey_volume.ensures.time (g.met.D.PoolDisks.counts_now c.survey_volume.new.disks) in
     went_then g.D.PoolDisks _ _ _ (went_then g.D.PoolDisks _ _ _ looks.goes_on c.make_books.ensures.looks.goes_on) c.clear_paths.ensures.goes_on
+
+pub returns-in-Err-clause-memory : goal.returns-in-Err-clause-memory
+returns-in-Err-clause-memory g c is world there = c.survey_volume.ensures.looks world (c.make_books.ensures.looks.remains world there)
