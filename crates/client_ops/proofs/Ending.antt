@@ -10,7 +10,7 @@ use Rattle.disk_model.specs.Worlds.{World, DraftPlace}
 use Rattle.map_model.specs.Cells.{Cell, Cells, absent}
 use Rattle.map_model.specs.Sound.{Knowledge, learned}
 use Rattle.map_model.specs.Steps.{Command, Reply, CarriedOut, write, write_refusal}
-use Rattle.pool_state.specs.declared.entry.Entry.{Entry}
+use Rattle.map_model.specs.Stands.{BlockBooks}
 use Rattle.pool_state.specs.declared.pool_record.Pool.{Pool}
 use Rattle.pair_draft.specs.Writers.{Pair}
 use Rattle.pool_state.specs.Writers.{PairStands, meta_of}
@@ -63,17 +63,17 @@ module _ {D S T R : Type 0} {g : Ghosts D S T R} {d : drafts.Ghosts T S} {s : se
 
   -- by what the bytes became
   pub ends_at : (place : T → DraftPlace) (bytes_of : T → Option (List ℕ)) (sealed_place : S → DraftPlace) (sealed_bytes : S → Option (List ℕ))
-      (told : Option (List World)) (entries : ℕ → Option Entry) (id stamp : ℕ) (bytes : List ℕ) (filled known : Filled D S T R) (reply : OpReply) → filled ≡ known →
-      FillStands place bytes_of sealed_place sealed_bytes told entries id stamp bytes filled →
-      (FillStands place bytes_of sealed_place sealed_bytes told entries id stamp bytes known → EndsWrite id stamp bytes (fill_fault known) reply cells old new × KeepsWhole old new) →
+      (told : Option (List World)) (books : ℕ → BlockBooks) (id stamp : ℕ) (bytes : List ℕ) (filled known : Filled D S T R) (reply : OpReply) → filled ≡ known →
+      FillStands place bytes_of sealed_place sealed_bytes told books id stamp bytes filled →
+      (FillStands place bytes_of sealed_place sealed_bytes told books id stamp bytes known → EndsWrite id stamp bytes (fill_fault known) reply cells old new × KeepsWhole old new) →
       EndsWrite id stamp bytes (fill_fault filled) reply cells old new × KeepsWhole old new
-  ends_at place bytes_of sealed_place sealed_bytes told entries id stamp bytes filled known reply is fill ends =
+  ends_at place bytes_of sealed_place sealed_bytes told books id stamp bytes filled known reply is fill ends =
       subst (λ f. EndsWrite id stamp bytes (fill_fault f) reply cells old new × KeepsWhole old new) (sym is)
-      (ends (subst (FillStands place bytes_of sealed_place sealed_bytes told entries id stamp bytes) is fill))
+      (ends (subst (FillStands place bytes_of sealed_place sealed_bytes told books id stamp bytes) is fill))
 
 -- what is known once a sealed pair was published
-pub sealed_learns : {told : Option (List World)} {entries : ℕ → Option Entry} {p : Pair} {id stamp : ℕ} {bytes : List ℕ} →
-    (there : (p.id ≡ id) × (p.stamp ≡ stamp) × PairStands told entries p bytes) → EndLearns None id (record { stamp = stamp; bytes = bytes }) (learned p.id p.stamp (meta_of there.2))
+pub sealed_learns : {told : Option (List World)} {books : ℕ → BlockBooks} {p : Pair} {id stamp : ℕ} {bytes : List ℕ} →
+    (there : (p.id ≡ id) × (p.stamp ≡ stamp) × PairStands told books p bytes) → EndLearns None id (record { stamp = stamp; bytes = bytes }) (learned p.id p.stamp (meta_of there.2))
 sealed_learns {p = p} {id = id} there = (
   meta_of there.2,
   there.2.sealed.of_bytes.matches,

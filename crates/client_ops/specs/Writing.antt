@@ -10,9 +10,10 @@ use Rattle.map_model.specs.Sound.{Knowledge, Verifies, learned}
 use Rattle.map_model.specs.Steps.{Command, Reply, Step, write, done, failed, memory}
 use Rattle.pair_draft.specs.declared.writer.Writing.{Writing}
 use Rattle.pair_draft.specs.Writers.{writer_of, pair_of}
-use Rattle.pool_state.specs.declared.entry.Entry.{Entry}
+use Rattle.map_model.specs.Stands.{BlockBooks}
 use Rattle.pool_state.specs.declared.pool_record.Pool.{Pool}
 use Rattle.pool_state.specs.Answers.{unlimited}
+use Rattle.pool_state.specs.Books.{block_books}
 use Rattle.pool_state.specs.Tenures.{TakesLearning}
 use Rattle.pool_state.specs.Writers.{WriterBelongs, PairStands}
 use Rattle.client_ops.specs.declared.writing.Op.{Op}
@@ -35,10 +36,16 @@ module _ {D S T R : Type 0} where
   fill_fault (Stopped writer fault) = Some fault
 
 module _ {D S T R : Type 0} (place : T → DraftPlace) (bytes_of : T → Option (List ℕ)) (sealed_place : S → DraftPlace) (sealed_bytes : S → Option (List ℕ)) where
-  -- what a write of these bytes became belongs to a pool with these entries
-  abbrev pub FillStands : (told : Option (List World)) (entries : ℕ → Option Entry) (id stamp : ℕ) (bytes : List ℕ) → Filled D S T R → Type 0
-  FillStands told entries id stamp bytes (Sealed pair) = (pair.id ≡ id) × (pair.stamp ≡ stamp) × PairStands told entries (pair_of sealed_place sealed_bytes pair) bytes
-  FillStands told entries id stamp bytes (Stopped writer fault) = (writer.id ≡ id) × (writer.stamp ≡ stamp) × WriterBelongs entries (writer_of place bytes_of writer)
+  -- what a write of these bytes became belongs to a pool with these books
+  abbrev pub FillStands : (told : Option (List World)) (books : ℕ → BlockBooks) (id stamp : ℕ) (bytes : List ℕ) → Filled D S T R → Type 0
+  FillStands told books id stamp bytes (Sealed pair) = (pair.id ≡ id) × (pair.stamp ≡ stamp) × PairStands told books (pair_of sealed_place sealed_bytes pair) bytes
+  FillStands told books id stamp bytes (Stopped writer fault) = (writer.id ≡ id) × (writer.stamp ≡ stamp) × WriterBelongs books (writer_of place bytes_of writer)
+
+module _ {D S T R : Type 0} {g : Ghosts D S T R} {d : drafts.Ghosts T S} {s : sealed.Ghosts S} {r : readers.Ghosts R} where
+  -- it belongs to this pool
+  abbrev pub FilledBelongs : Pool D S T R g d s r → (id stamp : ℕ) (bytes : List ℕ) → Filled D S T R → Type 0
+  FilledBelongs pool id stamp bytes filled =
+      FillStands d.place d.bytes s.place s.bytes (g.worlds pool.disks) (block_books pool.map) id stamp bytes filled
 
 -- the answer of a whole write
 abbrev pub op_answer : OpReply → Reply

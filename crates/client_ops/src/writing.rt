@@ -1,20 +1,19 @@
 //! A write as a whole, in three calls: its start and its end are tenures of the pool, and between them its bytes are written
 //! without the pool.
-ghost use Rattle.std.specs.Prelude.{◌≡◌, ◌≢◌, ◌⊎◌, ◌-◌, ◌<◌, ℕ, [], length, List, None, Some, IsErr, IsOk, IfOk, IfSome, IsErrOf, IsTrue, Option, Err, is_some};
+ghost use Rattle.std.specs.Prelude.{◌≡◌, ◌≢◌, ◌-◌, ◌<◌, ℕ, [], List, None, Some, IfOk, IfSome, IsErrOf, IsTrue, Option, Err, is_some};
 ghost use Rattle.disk_model.specs.Causes.{Rose};
 ghost use Rattle.disk_model.specs.Worlds.{World};
-ghost use Rattle.disk_model.specs.Marks.{GivenBetween, GoesOn};
-ghost use Rattle.map_model.specs.Cells.{Cells, growing, waiting};
+ghost use Rattle.disk_model.specs.Marks.{GoesOn};
+ghost use Rattle.map_model.specs.Cells.{Cells, growing};
 ghost use Rattle.map_model.specs.Sound.{nothing};
 ghost use Rattle.map_model.specs.Steps.{start_write};
 ghost use Rattle.pair_draft.specs.Writers.{writer_of, FailedOf};
-ghost use Rattle.pool_state.specs.declared.entry.Entry.{Entry};
-ghost use Rattle.pool_state.specs.Answers.{start_reply};
-ghost use Rattle.pool_state.specs.Books.{entry_at};
+ghost use Rattle.map_model.specs.Stands.{BlockBooks};
+ghost use Rattle.pool_state.specs.Books.{block_books};
 ghost use Rattle.pool_state.specs.Stands.{Stands, StandsForSome};
-ghost use Rattle.pool_state.specs.Tenures.{Takes, KeepsWhole};
+ghost use Rattle.pool_state.specs.Tenures.{KeepsWhole, Starts, IsWriterOf, GivesNumber};
 ghost use Rattle.pool_state.specs.Writers.{WriterStands};
-ghost use Rattle.client_ops.specs.Writing.{op_writer, fill_fault, FillStands, EndsWrite, EndsAsWrite};
+ghost use Rattle.client_ops.specs.Writing.{op_writer, fill_fault, FillStands, EndsWrite, EndsAsWrite, FilledBelongs};
 
 use disk_model::PoolDisks;
 use pool_state::{Pool, PushFault, SealFault, SealedPair, StartFault, Writing};
@@ -72,18 +71,12 @@ pub fn write_start<D: PoolDisks>(
 ) -> Result<Op<D>, StartFault>
     requires stands { StandsForSome pool.old }
     ensures step { (cells : Cells) → Stands pool.old nothing cells →
-        Takes id (start_write stamp len) (start_reply result)
-        (λ cell. (result ≡ Err StartFault.Failed → cell ≡ waiting)
-        × (result ≡ Err StartFault.Memory → cell ≡ waiting → D.next_number pool.old.disks < D.next_number pool.new.disks)
-        × (IsErr result → (cell ≡ cells id) ⊎ (cell ≡ waiting))
-        × (IsOk result → cell ≡ growing stamp None [] len))
-        cells pool.old pool.new × KeepsWhole pool.old pool.new }
-    ensures others { (other : ℕ) → other ≢ id → entry_at pool.new.map other ≡ entry_at pool.old.map other }
-    ensures writer { IfOk result (λ op. WriterStands (D.worlds pool.new.disks) (entry_at pool.new.map) (writer_of D.Draft.place D.Draft.bytes (op_writer op)) []) }
+        Starts id stamp len result cells pool.old pool.new × KeepsWhole pool.old pool.new }
+    ensures others { (other : ℕ) → other ≢ id → block_books pool.new.map other ≡ block_books pool.old.map other }
+    ensures writer { IfOk result (λ op. IsWriterOf pool.new (op_writer op) []) }
     ensures what { IfOk result (λ op. ((op_writer op).id ≡ id) × ((op_writer op).stamp ≡ stamp) × ((op_writer op).reserved ≡ len)) }
-    ensures numbers { IfOk result (λ op. GivenBetween (D.next_number pool.old.disks) (D.next_number pool.new.disks) (D.Draft.place (op_writer op).block).number) }
-    ensures meta_numbers { IfOk result (λ op. IfSome (op_writer op).meta (λ meta.
-        GivenBetween (D.next_number pool.old.disks) (D.next_number pool.new.disks) (D.Draft.place meta).number)) }
+    ensures numbers { IfOk result (λ op. GivesNumber pool.old pool.new (D.Draft.place (op_writer op).block).number) }
+    ensures meta_numbers { IfOk result (λ op. IfSome (op_writer op).meta (λ meta. GivesNumber pool.old pool.new (D.Draft.place meta).number)) }
     ensures goes_on { GoesOn D.PoolDisks pool.old.disks pool.new.disks }
     ensures failed { IsErrOf result StartFault.Failed → Rose (D.faults pool.old.disks) (D.faults pool.new.disks) }
 {
@@ -97,9 +90,9 @@ pub fn write_start<D: PoolDisks>(
 /// call of the pool.
 pub fn op_fill<D: PoolDisks>(op: Op<D>, bytes: &[u8]) -> Filled<D>
     requires whole { IsTrue (is_some (op_writer op).meta) }
-    ensures stands { (told : Option (List World)) (entries : ℕ → Option Entry) →
-        WriterStands told entries (writer_of D.Draft.place D.Draft.bytes (op_writer op)) [] →
-        FillStands D.Draft.place D.Draft.bytes D.Sealed.place D.Sealed.bytes told entries (op_writer op).id (op_writer op).stamp bytes.now result }
+    ensures stands { (told : Option (List World)) (books : ℕ → BlockBooks) →
+        WriterStands told books (writer_of D.Draft.place D.Draft.bytes (op_writer op)) [] →
+        FillStands D.Draft.place D.Draft.bytes D.Sealed.place D.Sealed.bytes told books (op_writer op).id (op_writer op).stamp bytes.now result }
     ensures failed { fill_fault result ≡ Some FillFault.Failed →
         FailedOf D.Draft.place D.Draft.faults (writer_of D.Draft.place D.Draft.bytes (op_writer op)) }
 {
@@ -111,9 +104,9 @@ pub fn op_fill<D: PoolDisks>(op: Op<D>, bytes: &[u8]) -> Filled<D>
 /// Gives a writer its bytes, and seals it.
 fn fill_writer<D: PoolDisks>(mut writer: Writing<D>, bytes: &[u8]) -> Filled<D>
     requires whole { IsTrue (is_some writer.meta) }
-    ensures stands { (told : Option (List World)) (entries : ℕ → Option Entry) →
-        WriterStands told entries (writer_of D.Draft.place D.Draft.bytes writer) [] →
-        FillStands D.Draft.place D.Draft.bytes D.Sealed.place D.Sealed.bytes told entries writer.id writer.stamp bytes.now result }
+    ensures stands { (told : Option (List World)) (books : ℕ → BlockBooks) →
+        WriterStands told books (writer_of D.Draft.place D.Draft.bytes writer) [] →
+        FillStands D.Draft.place D.Draft.bytes D.Sealed.place D.Sealed.bytes told books writer.id writer.stamp bytes.now result }
     ensures failed { fill_fault result ≡ Some FillFault.Failed →
         FailedOf D.Draft.place D.Draft.faults (writer_of D.Draft.place D.Draft.bytes writer) }
 {
@@ -135,15 +128,12 @@ fn fill_writer<D: PoolDisks>(mut writer: Writing<D>, bytes: &[u8]) -> Filled<D>
 /// failed, and dropped where memory was wanting. The answer is the first fault, if there was one. It takes no memory.
 pub fn op_end<D: PoolDisks>(pool: &mut Pool<D>, filled: Filled<D>) -> OpReply
     requires stands { StandsForSome pool.old }
-    requires belongs { (id stamp : ℕ) × (bytes : List ℕ) ×
-        FillStands D.Draft.place D.Draft.bytes D.Sealed.place D.Sealed.bytes (D.worlds pool.old.disks) (entry_at pool.old.map) id stamp bytes filled }
+    requires belongs { (id stamp : ℕ) × (bytes : List ℕ) × FilledBelongs pool.old id stamp bytes filled }
     ensures step { (cells : Cells) (id stamp left : ℕ) (bytes : List ℕ) → Stands pool.old nothing cells →
-        FillStands D.Draft.place D.Draft.bytes D.Sealed.place D.Sealed.bytes (D.worlds pool.old.disks) (entry_at pool.old.map) id stamp bytes filled →
-        cells id ≡ growing stamp None bytes left →
+        FilledBelongs pool.old id stamp bytes filled → cells id ≡ growing stamp None bytes left →
         EndsWrite id stamp bytes (fill_fault filled) result cells pool.old pool.new × KeepsWhole pool.old pool.new }
-    ensures others { (id stamp : ℕ) (bytes : List ℕ) →
-        FillStands D.Draft.place D.Draft.bytes D.Sealed.place D.Sealed.bytes (D.worlds pool.old.disks) (entry_at pool.old.map) id stamp bytes filled →
-        (other : ℕ) → other ≢ id → entry_at pool.new.map other ≡ entry_at pool.old.map other }
+    ensures others { (id stamp : ℕ) (bytes : List ℕ) → FilledBelongs pool.old id stamp bytes filled →
+        (other : ℕ) → other ≢ id → block_books pool.new.map other ≡ block_books pool.old.map other }
     ensures goes_on { GoesOn D.PoolDisks pool.old.disks pool.new.disks }
     ensures failed { result ≡ OpReply.Failed → fill_fault filled ≡ None → Rose (D.faults pool.old.disks) (D.faults pool.new.disks) }
 {

@@ -10,12 +10,10 @@ use Rattle.disk_model.proofs.GoingOn.{passed_then}
 use Rattle.map_model.specs.Cells.{Cells}
 use Rattle.map_model.specs.Allows.{AllowsImage}
 use Rattle.map_model.specs.Sound.{Knowledge, matching, Fits, IsSound}
-use Rattle.map_model.specs.Stands.{Leftover}
 use Rattle.map_model.specs.Laws as model
 use Rattle.map_model.proofs.LawProofs.{stands_allows}
 use Rattle.map_model.proofs.Soundness.{stands_is_sound}
-use Rattle.pool_state.specs.declared.entry.Entry.{Entry}
-use Rattle.pool_state.specs.Books.{block_books}
+use Rattle.map_model.specs.Stands.{BlockBooks}
 use Rattle.pool_state.specs.Stands.{PoolStands}
 use Rattle.run_model.specs.State.{RunState, Turn, last_state, last_mark}
 use Rattle.pool_state.proofs.Whole.{leaves_whole}
@@ -25,28 +23,28 @@ use Rattle.run_model.specs.Lines.{Follows}
 use Rattle.run_model.specs.Images.{AllowedByOne, AllowedByEach, LinesCrashSafe}
 
 -- what the disks can leave now, the cells of the pool allow
-pub leaves_allowed : {told : Option (List World)} {volumes : ℕ} {entries : ℕ → Option Entry} {found : ℕ → List Leftover} {known : Knowledge} {cells : Cells} → PoolStands told volumes entries found known cells →
+pub leaves_allowed : {told : Option (List World)} {volumes : ℕ} {books : ℕ → BlockBooks} {known : Knowledge} {cells : Cells} → PoolStands told volumes books known cells →
     (image : Files) → CanLeave told image → AllowsImage cells image
-leaves_allowed {told} {volumes} {entries} {found} {known} {cells} stands image leaves =
-    let whole : model.PoolStands (Fits known) told (λ id. block_books (entries id) (found id)) cells =
+leaves_allowed {told} {volumes} {books} {known} {cells} stands image leaves =
+    let whole : model.PoolStands (Fits known) told books cells =
     λ world is. record { blocks = stands.blocks world is; aside = stands.aside world is } in
-    stands_allows (Fits known) told (λ id. block_books (entries id) (found id)) cells image whole leaves
+    stands_allows (Fits known) told books cells image whole leaves
 
 -- and is sound where the meta files match
-pub leaves_sound : {told : Option (List World)} {volumes : ℕ} {entries : ℕ → Option Entry} {found : ℕ → List Leftover} {cells : Cells} → PoolStands told volumes entries found matching cells →
+pub leaves_sound : {told : Option (List World)} {volumes : ℕ} {books : ℕ → BlockBooks} {cells : Cells} → PoolStands told volumes books matching cells →
     (image : Files) → CanLeave told image → IsSound image
-leaves_sound {told} {volumes} {entries} {found} {cells} stands image leaves =
-    let whole : model.PoolStands (Fits matching) told (λ id. block_books (entries id) (found id)) cells =
+leaves_sound {told} {volumes} {books} {cells} stands image leaves =
+    let whole : model.PoolStands (Fits matching) told books cells =
     λ world is. record { blocks = stands.blocks world is; aside = stands.aside world is } in
-    stands_is_sound (Fits matching) told (λ id. block_books (entries id) (found id)) cells image whole leaves
+    stands_is_sound (Fits matching) told books cells image whole leaves
 
 -- what the disks can leave where the pool stands
-pub leaves_safe : {told : Option (List World)} {volumes : ℕ} {entries : ℕ → Option Entry} {found : ℕ → List Leftover} {known : Knowledge} {cells : Cells} → PoolStands told volumes entries found known cells →
+pub leaves_safe : {told : Option (List World)} {volumes : ℕ} {books : ℕ → BlockBooks} {known : Knowledge} {cells : Cells} → PoolStands told volumes books known cells →
     (image : Files) → CanLeave told image → AllowsImage cells image × OneWhole image
 leaves_safe stands image leaves = (leaves_allowed stands image leaves, leaves_whole stands image leaves)
 
 -- and so what some moment from now on could have left
-pub now_safe : {told : Option (List World)} {volumes : ℕ} {entries : ℕ → Option Entry} {found : ℕ → List Leftover} {known : Knowledge} {cells : Cells} {since : Files → Type 0} → PoolStands told volumes entries found known cells →
+pub now_safe : {told : Option (List World)} {volumes : ℕ} {books : ℕ → BlockBooks} {known : Knowledge} {cells : Cells} {since : Files → Type 0} → PoolStands told volumes books known cells →
     ((image : Files) → since image → CanLeave told image) → (image : Files) → since image → AllowsImage cells image × OneWhole image
 now_safe stands only image s = leaves_safe stands image (only image s)
 

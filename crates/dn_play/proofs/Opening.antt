@@ -1,5 +1,5 @@
 -- What a run is whose pool is opened, or isn't.
-use Rattle.std.proofs.Common.{◌≡◌, inl, inr, ℕ, true, false, List, [], Option, None, Some, MatchOption, Contains, refl, sym, ◌∙◌, subst, arith}
+use Rattle.std.proofs.Common.{◌≡◌, inl, inr, ℕ, List, [], Option, None, Some, MatchOption, Contains, refl, sym, ◌∙◌, subst, arith}
 use mathlib.Core.Path.{fun_ext}
 use Rattle.std.specs.Prelude.{IsSome}
 use Rattle.std.proofs.lemmas.Option.{same_Some}
@@ -19,8 +19,7 @@ use Rattle.map_model.specs.Copies.{BlockFiles, block_files}
 use Rattle.map_model.specs.Allows.{Allows, AllowsImage}
 use Rattle.map_model.specs.Openings.{LeavesBlockFile, WaitsExactly, MakesCells, shown_files, ReadsAlike}
 use Rattle.map_model.specs.Sound.{matching, exactly, Fits, HasSoundCopies, IsSound}
-use Rattle.map_model.specs.Stands.{Leftover}
-use Rattle.pool_state.specs.declared.entry.Entry.{Entry}
+use Rattle.map_model.specs.Stands.{BlockBooks}
 use Rattle.pool_state.specs.Stands.{PoolStands}
 use Rattle.pool_open.specs.declared.opening.OpenFault.{OpenFault}
 use Rattle.pool_open.specs.Outcome.{HoldsImage, HasTwoMetas, HasSoundFiles, ReadsAsOne, IsOpened, Opens, fault_disks}
@@ -128,15 +127,15 @@ module _ {D S T R : Type 0} (g : Ghosts D S T R) (Faulty : ℕ → ℕ → Type 
       })
 
   -- the lines were carried out
-  pub runs_so : (mid after out : D) {volumes : ℕ} {entries : ℕ → Option Entry} {found : ℕ → List Leftover} {SoundNow : Cells → Type 0}
+  pub runs_so : (mid after out : D) {volumes : ℕ} {books : ℕ → BlockBooks} {SoundNow : Cells → Type 0}
       (input taken taken' : Option (List ℕ)) (ending : Ending) → out ≡ after → GoesOn g before mid →
-      (opens : Opens (g.worlds before) (g.worlds mid) volumes entries found (g.left_since before) (g.left_since mid)) →
+      (opens : Opens (g.worlds before) (g.worlds mid) volumes books (g.left_since before) (g.left_since mid)) →
       Played Faulty (g.worlds mid) (first_of opens.cells opens.metas) (mark_of g mid) (mark_of g after) input taken taken' ending
-      (LeavesAllowed (g.worlds after)) (PoolStands (g.worlds mid) volumes entries found matching) SoundNow (g.left_since mid) (g.left_since after) → IsOfLines ending →
+      (LeavesAllowed (g.worlds after)) (PoolStands (g.worlds mid) volumes books matching) SoundNow (g.left_since mid) (g.left_since after) → IsOfLines ending →
       ((image : Files) → HoldsImage (g.worlds before) image → HasTwoMetas image → ⊥) → AddsOnly (g.left_since before) (g.left_since mid) (ReadsAsOne (g.worlds before)) →
       (ending ≡ NotCarriedOut → (image : Files) → CanLeave (g.worlds after) image → HasTwoMetas image) →
       RunsPool Faulty (g.left_since out) (CanLeave (g.worlds out)) (course_between out input) taken taken' ending
-  runs_so mid after out {volumes} {entries} {found} {SoundNow} input taken taken' ending is went opens p of_lines one_meta meanwhile later =
+  runs_so mid after out {volumes} {books} {SoundNow} input taken taken' ending is went opens p of_lines one_meta meanwhile later =
       let since_opening : (start : Files) → HoldsImage (g.worlds before) start → ReadsAlikeUpTo (g.left_since after) (mark_of g before) (mark_of g mid) start = λ start holds image s.
       elim (p.crash.passes.adds (g.moment before) image s) [
         | inl earlier ↦ inl (reads_start mid start holds meanwhile image earlier)

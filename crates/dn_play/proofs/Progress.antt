@@ -1,9 +1,8 @@
 -- How far a session has come, and how a line takes it on.
-use Rattle.std.proofs.Common.{◌≡◌, inl, inr, false, ℕ, ◌+◌, ◌≤◌, List, [], ◌∷◌, ◌++◌, length, refl, ap, sym, ◌∙◌, subst, arith, Option, Some, None, IfSome, IsSome}
+use Rattle.std.proofs.Common.{◌≡◌, inl, inr, false, ℕ, ◌+◌, List, [], ◌∷◌, ◌++◌, length, refl, ap, sym, ◌∙◌, subst, arith, Option, Some, None, IfSome, IsSome}
 use Rattle.std.proofs.lemmas.List.{append-nil, append_assoc}
 use Rattle.std.specs.Io.KnownBytes.{Appends}
 use Rattle.disk_model.specs.Worlds.{World}
-use Rattle.disk_model.specs.Causes.{Rose}
 use Rattle.line_io.proofs.Appending.{appends_nothing, appends_append}
 use Rattle.line_io.specs.Lines.{terminated_lines, TakesLine, FirstPassesLimit, OfUnread}
 use Rattle.line_io.specs.declared.lines.ReadFault.{ReadFault}

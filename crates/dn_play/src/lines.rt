@@ -7,8 +7,7 @@ ghost use Rattle.disk_model.specs.Told.{CanLeave};
 ghost use Rattle.disk_model.specs.Marks.{GoesOn};
 ghost use Rattle.pool_open.specs.Outcome.{HasTwoMetas};
 ghost use Rattle.run_model.specs.State.{RunState};
-ghost use Rattle.run_model.specs.Carrying.{LeavesAllowed, AnyCells};
-ghost use Rattle.run_session.specs.Standing.{SessionStands, SoundFor, SessionStandsForSome};
+ghost use Rattle.run_session.specs.Standing.{SessionStands, SessionStandsForSome};
 ghost use Rattle.dn_play.specs.Answer.{SessionPlays, IsOfLines};
 
 use crate::answer::answer;

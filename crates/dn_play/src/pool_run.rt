@@ -2,8 +2,7 @@
 ghost use Rattle.std.specs.Prelude.{◌≡◌, ◌≤◌};
 ghost use Rattle.std.specs.Io.KnownBytes.{IsAtEnd};
 ghost use Rattle.disk_model.specs.Causes.{Rose};
-ghost use Rattle.disk_model.specs.Told.{InEachWorld, CanLeave};
-ghost use Rattle.disk_model.specs.Marks.{faulty_of, mark_of};
+ghost use Rattle.disk_model.specs.Told.{InEachWorld};
 ghost use Rattle.map_model.specs.World.{DraftsAside};
 ghost use Rattle.dn_play.specs.Play.{RunsPoolOver};
 

@@ -1,5 +1,5 @@
 //! Replicas beside their meta files: what a read answers, and what a write leaves.
-ghost use Rattle.std.specs.Prelude.{◌≡◌, All, IfOk, OnOk};
+ghost use Rattle.std.specs.Prelude.{All, IfOk};
 ghost use Rattle.disk_model.specs.Told.{InEachWorld};
 ghost use Rattle.map_model.specs.World.{DraftsAside};
 

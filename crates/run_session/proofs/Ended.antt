@@ -3,10 +3,9 @@ use Rattle.std.proofs.Common.{◌≡◌, ◌-◌, inl, inr, ℕ, List, [], lengt
 use Rattle.disk_model.specs.Worlds.{World}
 use Rattle.disk_model.specs.Marks.{Mark}
 use Rattle.map_model.specs.Cells.{Cell, Cells, growing}
-use Rattle.map_model.specs.Stands.{Leftover}
 use Rattle.map_model.specs.Steps.{push, write, done, failed}
 use Rattle.pair_draft.specs.Writers.{Writer}
-use Rattle.pool_state.specs.declared.entry.Entry.{Entry}
+use Rattle.map_model.specs.Stands.{BlockBooks}
 use Rattle.pool_state.specs.Answers.{StepsTo}
 use Rattle.pool_state.specs.Stands.{PoolStands}
 use Rattle.pool_state.specs.Writers.{WriterStands}
@@ -25,15 +24,15 @@ use Rattle.run_session.specs.Standing.{NotGrowing}
 use Rattle.run_session.proofs.Stepping.{at_block_steps}
 
 -- all bytes are pushed
-pub fill_step : {told : Option (List World)} {volumes : ℕ} {entries : ℕ → Option Entry} {found : ℕ → List Leftover} {cells : Cells} (id stamp : ℕ) (piece : List ℕ) (w : Writer) →
-    WriterStands told entries w [] → w.id ≡ id → w.stamp ≡ stamp → w.reserved ≡ length piece → cells id ≡ growing stamp None [] (length piece) →
-    StepsTo id (push piece) done (λ cell. cell ≡ growing stamp None piece (length piece - length piece)) cells (PoolStands told volumes entries found) (PoolStands told volumes entries found)
-fill_step {told} {volumes} {entries} {found} {cells} id stamp piece w belongs same_id same_stamp full grows =
+pub fill_step : {told : Option (List World)} {volumes : ℕ} {books : ℕ → BlockBooks} {cells : Cells} (id stamp : ℕ) (piece : List ℕ) (w : Writer) →
+    WriterStands told books w [] → w.id ≡ id → w.stamp ≡ stamp → w.reserved ≡ length piece → cells id ≡ growing stamp None [] (length piece) →
+    StepsTo id (push piece) done (λ cell. cell ≡ growing stamp None piece (length piece - length piece)) cells (PoolStands told volumes books) (PoolStands told volumes books)
+fill_step {told} {volumes} {books} {cells} id stamp piece w belongs same_id same_stamp full grows =
     let none : w.len ≡ 0 = belongs.pushed.len in
     let rest : length piece ≡ w.reserved - w.len = omega (arith, full, none) in
     let at : cells w.id ≡ growing w.stamp None [] (w.reserved - w.len) =
     ap cells same_id ∙ grows ∙ ap (λ n. growing stamp None [] n) rest ∙ ap (λ s. growing s None [] (w.reserved - w.len)) (sym same_stamp) in
-    at_block_steps same_id (pushes told volumes entries found cells w [] piece stamp (length piece) (length piece) belongs at (omega (arith, rest)) (sym same_stamp) (omega (arith, none)) (sym full))
+    at_block_steps same_id (pushes told volumes books cells w [] piece stamp (length piece) (length piece) belongs at (omega (arith, rest)) (sym same_stamp) (omega (arith, none)) (sym full))
 
 pub says_end : (trust : Trust) (metas : ℕ → List ℕ) (reply : OpReply) (said : Reply) → said ≡ end_reply reply → Says trust metas (op_answer reply) said
 says_end trust metas EndsOk said is = is

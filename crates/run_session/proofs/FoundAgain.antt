@@ -1,5 +1,5 @@
 -- What opening a pool again shows, and what a crash can leave meanwhile.
-use Rattle.std.proofs.Common.{◌≡◌, inl, inr, ℕ, List, [], Option, Some, None, MatchOption, refl, ap, sym, ◌∙◌, subst, IsTrue, IsSome, option_map}
+use Rattle.std.proofs.Common.{◌≡◌, inl, inr, ℕ, List, Option, Some, None, MatchOption, IfSome, refl, ap, sym, ◌∙◌, subst, IsTrue, IsSome}
 use Rattle.std.specs.Prelude.{Result, Ok, Err, OnOk, OnErr}
 use Rattle.disk_model.specs.Files.{Files}
 use Rattle.disk_model.specs.Worlds.{World}
@@ -15,17 +15,15 @@ use Rattle.volume_layout.specs.declared.block_file.BlockFile.{BlockFile}
 use Rattle.volume_layout.specs.declared.block_file.BlockFile.TheVariants.{Block, WritingBlock}
 use Rattle.map_model.specs.Slots.{is_standing, View, files_in, view_of}
 use Rattle.map_model.specs.Sound.{Knowledge, matching, exactly, Fits, HasSoundCopies, IsSound}
-use Rattle.map_model.specs.Stands.{Agrees, Leftover, is_written, is_waiting, WritesOver, Entry as BookEntry, BlockStands}
+use Rattle.map_model.specs.Stands.{EntryState, is_final, is_written, in_doubt, is_waiting, base_of, Entry, Leftover, Ticket, BlockBooks, Agrees, WritesOver, WriterStands, BlockStands}
 use Rattle.map_model.specs.Steps.{FoundAs, Reopened}
 use Rattle.map_model.proofs.LawProofs.{block_allows}
 use Rattle.map_model.proofs.Soundness.{block_is_sound}
 use Rattle.map_model.proofs.OneReading.{ReadsAs-unique}
 use Rattle.map_model.proofs.SlotLemmas.{bytes-standing}
-use Rattle.pool_state.specs.declared.entry.Entry.{Entry}
-use Rattle.pool_state.specs.declared.entry.State.{State}
-use Rattle.pool_state.specs.declared.entry.State.TheVariants.{Finalised, Writing, Unsure, Waiting}
-use Rattle.pool_state.specs.Books.{entry_state, book_entry, block_books}
-use Rattle.pool_state.specs.Stands.{IsNotWaiting, PoolStands}
+use Rattle.map_model.specs.Tenures.{books_of}
+use Rattle.map_model.proofs.Owned.{IsOwn, own_file}
+use Rattle.pool_state.specs.Stands.{PoolStands}
 use Rattle.pool_state.proofs.Whole.{block_whole}
 use Rattle.pair_draft.specs.Writers.{Writer}
 use Rattle.pool_open.specs.Outcome.{HasFiles, HasWholeFiles, ReadsAsOne, IsOpened, Opens}
@@ -71,77 +69,70 @@ some_waits files new reads made leaves =
     let waits : WaitsExactly files new = subst (λ (r : Option Replica). MatchOption r (WaitsExactly files new) (λ replica. new ≡ final replica)) (ReadsAs-unique files made.replica None made.reads reads) made.made in
     waits.waits leaves
 
--- of an absent block no file stands
-absent_entry : (entry : Option Entry) → Agrees (option_map book_entry entry) absent → entry ≡ None
-absent_entry None agrees = refl
-absent_entry (Some e) agrees = absurd agrees
+-- of an absent block no file of its own stands
+nothing_stands : (M : List ℕ → Replica → Type 0) (view : View) (entry : Option Entry) (left : List Leftover) (ticket : Option Ticket) →
+    BlockStands M view (books_of entry left ticket) absent → (vol : ℕ) (file : BlockFile) → IsOwn file → IsTrue (is_standing (view vol file)) → ⊥
+nothing_stands M view None left ticket stands vol file own there = own_file M view (books_of None left ticket) absent stands vol file own there
+nothing_stands M view (Some e) left ticket stands vol file own there = stands.agrees
 
-nothing_stands : (M : List ℕ → Replica → Type 0) (view : View) → BlockStands M view (block_books None []) absent → (vol : ℕ) (file : BlockFile) → IsTrue (is_standing (view vol file)) → ⊥
-nothing_stands M view stands vol file there = elim (stands.accounted vol file there) [
-  | inl (inl names) ↦ names
-  | inl (inr names) ↦ names
-  | inr listed ↦ listed
-]
-
-no_block_file : (view : View) → ((vol : ℕ) (file : BlockFile) → IsTrue (is_standing (view vol file)) → ⊥) → LeavesBlockFile (files_in view) → ⊥
+no_block_file : (view : View) → ((vol : ℕ) (file : BlockFile) → IsOwn file → IsTrue (is_standing (view vol file)) → ⊥) → LeavesBlockFile (files_in view) → ⊥
 no_block_file view none leaves = elim leaves.1 [
-  | inl written ↦ none leaves.0 WritingBlock written
-  | inr settled ↦ none leaves.0 Block (bytes-standing (view leaves.0 Block) settled)
+  | inl written ↦ none leaves.0 WritingBlock tt written
+  | inr settled ↦ none leaves.0 Block tt (bytes-standing (view leaves.0 Block) settled)
 ]
 
 -- the block file of an open writer stands
-written_file : (M : List ℕ → Replica → Type 0) (view : View) (entry : Option Entry) (found : List Leftover) (stamp left : ℕ) (bytes : List ℕ) →
-    BlockStands M view (block_books entry found) (growing stamp None bytes left) → LeavesBlockFile (files_in view)
-written_file M view None found stamp left bytes stands = absurd stands.agrees
-written_file M view (Some e) found stamp left bytes stands = by_state e.state refl
+written_file : (M : List ℕ → Replica → Type 0) (view : View) (entry : Option Entry) (left : List Leftover) (ticket : Option Ticket) (stamp rest : ℕ) (bytes : List ℕ) →
+    BlockStands M view (books_of entry left ticket) (growing stamp None bytes rest) → LeavesBlockFile (files_in view)
+written_file M view None left ticket stamp rest bytes stands = absurd stands.agrees
+written_file M view (Some e) left ticket stamp rest bytes stands = by_state e.state refl
   where
-    by_state : (state : State) → e.state ≡ state → LeavesBlockFile (files_in view)
-    by_state Finalised is = absurd (subst (λ s. WritesOver (entry_state s) None stamp) is stands.agrees.2)
-    by_state Unsure is = absurd (subst (λ s. WritesOver (entry_state s) None stamp) is stands.agrees.2)
-    by_state (Waiting l m) is = absurd (subst (λ s. WritesOver (entry_state s) None stamp) is stands.agrees.2)
-    by_state (Writing b m) is =
-        let writer = subst (λ s. Rattle.map_model.specs.Stands.WriterStands view (book_entry e) (entry_state s)) is stands.writer in
+    by_state : (state : EntryState) → e.state ≡ state → LeavesBlockFile (files_in view)
+    by_state is_final is = absurd (subst (λ s. WritesOver s None stamp) is stands.agrees.2)
+    by_state (in_doubt base) is = absurd (subst (λ s. WritesOver s None stamp) is stands.agrees.2)
+    by_state is_waiting is = absurd (subst (λ s. WritesOver s None stamp) is stands.agrees.2)
+    by_state (is_written base b m) is =
+        let writer = subst (WriterStands view e) is stands.writer in
         (e.vol, inl (ap is_standing writer.0))
 
-no_base : (e : Entry) (state : State) (base : Replica) (stamp : ℕ) → e.state ≡ state → WritesOver (entry_state e.state) (Some base) stamp → ⊥
-no_base e Finalised base stamp is over = subst (λ s. WritesOver (entry_state s) (Some base) stamp) is over
-no_base e Unsure base stamp is over = subst (λ s. WritesOver (entry_state s) (Some base) stamp) is over
-no_base e (Waiting l m) base stamp is over = subst (λ s. WritesOver (entry_state s) (Some base) stamp) is over
-no_base e (Writing b m) base stamp is over = subst (λ s. WritesOver (entry_state s) (Some base) stamp) is over
+-- no writer has a base
+no_base : (state : EntryState) (base : Replica) (stamp : ℕ) → base_of state ≡ None → WritesOver state (Some base) stamp → ⊥
+no_base is_final base stamp fresh over = over
+no_base (is_written None b m) base stamp fresh over = over
+no_base (is_written (Some old) b m) base stamp fresh over = absurd cc
+no_base (in_doubt old) base stamp fresh over = over
+no_base is_waiting base stamp fresh over = over
 
-based : (entry : Option Entry) (base : Replica) (stamp left : ℕ) (bytes : List ℕ) → Agrees (option_map book_entry entry) (growing stamp (Some base) bytes left) → ⊥
-based None base stamp left bytes agrees = agrees
-based (Some e) base stamp left bytes agrees = no_base e e.state base stamp refl agrees.2
+based : (entry : Option Entry) (base : Replica) (stamp left : ℕ) (bytes : List ℕ) → IfSome entry (λ e. base_of e.state ≡ None) → Agrees entry (growing stamp (Some base) bytes left) → ⊥
+based None base stamp left bytes fresh agrees = agrees
+based (Some e) base stamp left bytes fresh agrees = no_base e.state base stamp fresh agrees.2
 
 -- WHAT A CELL IS FOUND AS
-module _ (M : List ℕ → Replica → Type 0) (view : View) (entry : Option Entry) (found : List Leftover) (clean : IsNotWaiting entry → found ≡ [])
+module _ (M : List ℕ → Replica → Type 0) (view : View) (books : BlockBooks) (fresh : IfSome books.entry (λ e. base_of e.state ≡ None))
     (new : Cell) (made : MakesCell (files_in view) new) (opened : IsOpened new) where
-  found_again : (cell : Cell) → BlockStands M view (block_books entry found) cell → (read : Option Replica) → ReadsAs (files_in view) read → FoundAs read new
+  found_again : (cell : Cell) → BlockStands M view books cell → (read : Option Replica) → ReadsAs (files_in view) read → FoundAs read new
   found_again cell stands read reads = found_so (files_in view) new read reads made opened
 
-  pub block_reopened : (cell : Cell) → BlockStands M view (block_books entry found) cell → Reopened cell new
+  pub block_reopened : (cell : Cell) → BlockStands M view books cell → Reopened cell new
   block_reopened absent stands =
-      let none : entry ≡ None = absent_entry entry stands.agrees in
-      let no_files : found ≡ [] = clean (subst IsNotWaiting (sym none) tt) in
-      let bare = nothing_stands M view (subst (λ (l : List Leftover). BlockStands M view (block_books None l) absent) no_files
-      (subst (λ (e : Option Entry). BlockStands M view (block_books e found) absent) none stands)) in
-      let allows = block_allows M view (block_books entry found) absent stands in
-      none_absent (files_in view) new (subst (λ (r : Option Replica). ReadsAs (files_in view) r) allows.allowed allows.reads) made (no_block_file view bare)
+      let allows = block_allows M view books absent stands in
+      none_absent (files_in view) new (subst (λ (r : Option Replica). ReadsAs (files_in view) r) allows.allowed allows.reads) made
+      (no_block_file view (nothing_stands M view books.entry books.leftovers books.ticket stands))
   block_reopened (final replica) stands =
-      let allows = block_allows M view (block_books entry found) (final replica) stands in
+      let allows = block_allows M view books (final replica) stands in
       subst (λ (r : Option Replica). FoundAs r new) allows.allowed (found_again (final replica) stands allows.read allows.reads)
   block_reopened (growing stamp None bytes left) stands =
-      let allows = block_allows M view (block_books entry found) (growing stamp None bytes left) stands in
-      some_waits (files_in view) new (subst (λ (r : Option Replica). ReadsAs (files_in view) r) allows.allowed allows.reads) made (written_file M view entry found stamp left bytes stands)
-  block_reopened (growing stamp (Some base) bytes left) stands = absurd (based entry base stamp left bytes stands.agrees)
+      let allows = block_allows M view books (growing stamp None bytes left) stands in
+      some_waits (files_in view) new (subst (λ (r : Option Replica). ReadsAs (files_in view) r) allows.allowed allows.reads) made (written_file M view books.entry books.leftovers books.ticket stamp left bytes stands)
+  block_reopened (growing stamp (Some base) bytes left) stands = absurd (based books.entry base stamp left bytes fresh stands.agrees)
   block_reopened waiting stands =
-      let allows = block_allows M view (block_books entry found) waiting stands in
+      let allows = block_allows M view books waiting stands in
       elim (subst (λ (r : Option Replica). FoundAs r new) allows.allowed (found_again waiting stands allows.read allows.reads)) [
         | inl gone ↦ inr gone
         | inr waits ↦ inl waits
       ]
   block_reopened (unsure x y cut) stands =
-      let allows = block_allows M view (block_books entry found) (unsure x y cut) stands in
+      let allows = block_allows M view books (unsure x y cut) stands in
       let seen = found_again (unsure x y cut) stands allows.read allows.reads in
       elim allows.allowed [
         | inl first ↦ inl (subst (λ (r : Option Replica). FoundAs r new) first seen)
@@ -151,21 +142,21 @@ module _ (M : List ℕ → Replica → Type 0) (view : View) (entry : Option Ent
 
 -- ---- the pool
 
-module _ {told : Option (List World)} {volumes : ℕ} {entries : ℕ → Option Entry} {found : ℕ → List Leftover} {known : Knowledge} {cells : Cells}
-    (stands : PoolStands told volumes entries found known cells) where
+module _ {told : Option (List World)} {volumes : ℕ} {books : ℕ → BlockBooks} {known : Knowledge} {cells : Cells}
+    (stands : PoolStands told volumes books known cells) where
   module _ (world : World) (is : IsWorldOf told world) (id : ℕ) (valid : IsBlockId id) where
-    own : BlockStands (Fits known id) (view_of world id) (block_books (entries id) (found id)) (cells id)
+    own : BlockStands (Fits known id) (view_of world id) (books id) (cells id)
     own = stands.blocks world is id valid
 
     same : shown_files world id ≡ files_in (view_of world id)
     same = shown_view world id (stands.aside world is)
 
     pub cell_reopened : (new : Cell) → MakesCell (shown_files world id) new → IsOpened new → Reopened (cells id) new
-    cell_reopened new made opened = block_reopened (Fits known id) (view_of world id) (entries id) (found id) (stands.clean id valid) new
+    cell_reopened new made opened = block_reopened (Fits known id) (view_of world id) (books id) (stands.fit id valid).fresh new
         (subst (λ (f : BlockFiles). MakesCell f new) same made) opened (cells id) own
 
     world_allowed : AllowsFiles (cells id) (shown_files world id)
-    world_allowed = subst (λ (f : BlockFiles). AllowsFiles (cells id) f) (sym same) (block_allows (Fits known id) (view_of world id) (block_books (entries id) (found id)) (cells id) own)
+    world_allowed = subst (λ (f : BlockFiles). AllowsFiles (cells id) f) (sym same) (block_allows (Fits known id) (view_of world id) (books id) (cells id) own)
 
   -- what reads as one of its worlds, its cells allow
   pub reads_allowed : (image : Files) → ReadsAsOne told image → AllowsImage cells image
@@ -177,30 +168,30 @@ module _ {told : Option (List World)} {volumes : ℕ} {entries : ℕ → Option 
   world_whole : (world : World) → IsWorldOf told world → HasWholeFiles world
   world_whole world is id valid =
       subst (λ (f : BlockFiles). (spot : Spot) (replica : Replica) → IsCopy f spot replica → IsAlone f spot) (sym (same world is id valid))
-      (block_whole (Fits known id) (view_of world id) (entries id) (found id) (cells id) (own world is id valid) (stands.clean id valid))
+      (block_whole (Fits known id) (view_of world id) (books id) (cells id) (stands.fit id valid) (own world is id valid))
 
   pub reads_whole : (image : Files) → ReadsAsOne told image → OneWhole image
   reads_whole image reads = reads.2.whole (world_whole reads.0 reads.1)
 
 -- what is known of the meta files is so in each world, and where they match, in the image
-pub worlds_known : {told : Option (List World)} {volumes : ℕ} {entries : ℕ → Option Entry} {found : ℕ → List Leftover} {known : Knowledge} {cells : Cells} →
-    PoolStands told volumes entries found known cells → InEachWorld told (HasFiles known)
-worlds_known {entries = entries} {found = found} {known = known} {cells = cells} stands world is id valid =
+pub worlds_known : {told : Option (List World)} {volumes : ℕ} {books : ℕ → BlockBooks} {known : Knowledge} {cells : Cells} →
+    PoolStands told volumes books known cells → InEachWorld told (HasFiles known)
+worlds_known {books = books} {known = known} {cells = cells} stands world is id valid =
     subst (λ (f : BlockFiles). HasSoundCopies (Fits known id) f) (sym (shown_view world id (stands.aside world is)))
-    (block_is_sound (Fits known id) (view_of world id) (block_books (entries id) (found id)) (cells id) (stands.blocks world is id valid))
+    (block_is_sound (Fits known id) (view_of world id) (books id) (cells id) (stands.blocks world is id valid))
 
-pub reads_sound : {told : Option (List World)} {volumes : ℕ} {entries : ℕ → Option Entry} {found : ℕ → List Leftover} {cells : Cells} → PoolStands told volumes entries found matching cells →
+pub reads_sound : {told : Option (List World)} {volumes : ℕ} {books : ℕ → BlockBooks} {cells : Cells} → PoolStands told volumes books matching cells →
     (image : Files) → ReadsAsOne told image → IsSound image
 reads_sound stands image reads = reads.2.sound (worlds_known stands reads.0 reads.1)
 
 -- ---- the line
 
 -- the pool was opened again: no writer is open, and the session stands for what was found
-pub carried_reopen : {Faulty : ℕ → ℕ → Type 0} {told told' : Option (List World)} {volumes volumes' : ℕ} {entries entries' : ℕ → Option Entry} {found found' : ℕ → List Leftover}
-    {writers writers' : ℕ → Option Writer} {state : RunState} {before after : Mark} {past since : ℕ → Files → Type 0} → Standing told volumes entries found writers state →
-    (opens : Opens told told' volumes' entries' found' past since) → ((id : ℕ) → writers' id ≡ None) → AddsOnly past since (ReadsAsOne told) →
-    LineCarried Faulty told state before Reopen Done after (Standing told' volumes' entries' found' writers') (PoolStands told volumes entries found matching) (PoolStands told' volumes' entries' found' matching) past since
-carried_reopen {told = told} {volumes = volumes} {entries = entries} {found = found} {writers' = writers'} {state = state} standing opens none images = record {
+pub carried_reopen : {Faulty : ℕ → ℕ → Type 0} {told told' : Option (List World)} {volumes volumes' : ℕ} {books books' : ℕ → BlockBooks}
+    {writers writers' : ℕ → Option Writer} {state : RunState} {before after : Mark} {past since : ℕ → Files → Type 0} → Standing told volumes books writers state →
+    (opens : Opens told told' volumes' books' past since) → ((id : ℕ) → writers' id ≡ None) → AddsOnly past since (ReadsAsOne told) →
+    LineCarried Faulty told state before Reopen Done after (Standing told' volumes' books' writers') (PoolStands told volumes books matching) (PoolStands told' volumes' books' matching) past since
+carried_reopen {told = told} {volumes = volumes} {books = books} {writers' = writers'} {state = state} standing opens none images = record {
   new = opened_of opens.cells state.metas state.writers;
   stands = stands_opened writers' opens (opens.stands_by (exactly state.metas) (worlds_known standing.pool)) state.writers none;
   does = λ trust known. record { done = refl; cells = by_trust trust known; metas = refl; writers = λ id. refl };
@@ -217,14 +208,14 @@ carried_reopen {told = told} {volumes = volumes} {entries = entries} {found = fo
         let shows = opens.shown known in
         λ id valid. cell_reopened standing.pool shows.world shows.is id valid (opens.cells id) (shows.made id valid) (opens.opened id valid)
 
-    by_trust : (trust : Trust) → IsKnown (PoolStands told volumes entries found matching state.cells) trust told → CellsReopened trust state.cells opens.cells
+    by_trust : (trust : Trust) → IsKnown (PoolStands told volumes books matching state.cells) trust told → CellsReopened trust state.cells opens.cells
     by_trust any_disks known = opens.opened
     by_trust telling_disks known = by_telling known
     by_trust sound_disks known = by_telling known.0
 
 -- it wasn't: what a crash can leave, the cells before allow
-pub stays_reopen : {told : Option (List World)} {volumes : ℕ} {entries : ℕ → Option Entry} {found : ℕ → List Leftover} {writers : ℕ → Option Writer} {state : RunState} {past since : ℕ → Files → Type 0} →
-    Standing told volumes entries found writers state → AddsOnly past since (ReadsAsOne told) → StaysCrashSafe state.cells (PoolStands told volumes entries found matching) past since
+pub stays_reopen : {told : Option (List World)} {volumes : ℕ} {books : ℕ → BlockBooks} {writers : ℕ → Option Writer} {state : RunState} {past since : ℕ → Files → Type 0} →
+    Standing told volumes books writers state → AddsOnly past since (ReadsAsOne told) → StaysCrashSafe state.cells (PoolStands told volumes books matching) past since
 stays_reopen standing images = record {
   images = λ t image s. elim (images t image s) [ inl earlier ↦ inl earlier | inr reads ↦ inr (reads_allowed standing.pool image reads) ];
   sound_images = λ was t image s. elim (images t image s) [ inl earlier ↦ inl earlier | inr reads ↦ inr (reads_sound was image reads) ];

@@ -4,8 +4,7 @@ use Rattle.disk_model.specs.Worlds.{World}
 use Rattle.disk_model.specs.Files.{Files}
 use Rattle.map_model.specs.Cells.{Cell, Cells}
 use Rattle.map_model.specs.Sound.{Metas, exactly}
-use Rattle.map_model.specs.Stands.{Leftover}
-use Rattle.pool_state.specs.declared.entry.Entry.{Entry}
+use Rattle.map_model.specs.Stands.{BlockBooks}
 use Rattle.pool_state.specs.Stands.{PoolStands}
 use Rattle.pair_draft.specs.Writers.{Writer}
 use Rattle.pool_open.specs.Outcome.{IsOpened, Opens}
@@ -26,16 +25,16 @@ not_growing cell (inr (inl is)) = subst NotGrowing (sym is.1) tt
 not_growing cell (inr (inr is)) = subst NotGrowing (sym is) tt
 
 -- a session without writers stands for the cells that the opening made, of whose meta files so much is known
-pub stands_opened : {before told : Option (List World)} {volumes : ℕ} {entries : ℕ → Option Entry} {found : ℕ → List Leftover} {past since : ℕ → Files → Type 0} (writers : ℕ → Option Writer) →
-    (opens : Opens before told volumes entries found past since) → {metas : Metas} → PoolStands told volumes entries found (exactly metas) opens.cells → (numbers : ℕ → Numbers) → ((id : ℕ) → writers id ≡ None) →
-    Standing told volumes entries found writers (opened_of opens.cells metas numbers)
-stands_opened {before} {told} {volumes} {entries} {found} writers opens pool numbers none = record {
+pub stands_opened : {before told : Option (List World)} {volumes : ℕ} {books : ℕ → BlockBooks} {past since : ℕ → Files → Type 0} (writers : ℕ → Option Writer) →
+    (opens : Opens before told volumes books past since) → {metas : Metas} → PoolStands told volumes books (exactly metas) opens.cells → (numbers : ℕ → Numbers) → ((id : ℕ) → writers id ≡ None) →
+    Standing told volumes books writers (opened_of opens.cells metas numbers)
+stands_opened {before} {told} {volumes} {books} writers opens pool numbers none = record {
   pool = pool;
-  writer = λ id valid. subst (λ w. MatchOption w (NotGrowing (opens.cells id)) (OpenWriter told entries id (opens.cells id) (numbers id))) (sym (none id))
+  writer = λ id valid. subst (λ w. MatchOption w (NotGrowing (opens.cells id)) (OpenWriter told books id (opens.cells id) (numbers id))) (sym (none id))
       (not_growing (opens.cells id) (opens.opened id valid));
 }
 
 -- and so for those that a run begins with
-pub stands_first : {before told : Option (List World)} {volumes : ℕ} {entries : ℕ → Option Entry} {found : ℕ → List Leftover} {past since : ℕ → Files → Type 0} (writers : ℕ → Option Writer) →
-    (opens : Opens before told volumes entries found past since) → ((id : ℕ) → writers id ≡ None) → Standing told volumes entries found writers (first_of opens.cells opens.metas)
+pub stands_first : {before told : Option (List World)} {volumes : ℕ} {books : ℕ → BlockBooks} {past since : ℕ → Files → Type 0} (writers : ℕ → Option Writer) →
+    (opens : Opens before told volumes books past since) → ((id : ℕ) → writers id ≡ None) → Standing told volumes books writers (first_of opens.cells opens.metas)
 stands_first writers opens none = stands_opened writers opens opens.stands (λ id. record { first = 0; last = 0 }) none

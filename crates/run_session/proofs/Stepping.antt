@@ -9,10 +9,9 @@ use Rattle.map_model.specs.Copies.{OneWhole}
 use Rattle.disk_model.specs.Worlds.{World, DraftPlace, draft_at}
 use Rattle.map_model.specs.Cells.{Cell, Cells, growing, waiting}
 use Rattle.map_model.specs.Steps.{Command, Step, Reply as Answer, failed, memory}
-use Rattle.pool_state.specs.declared.entry.Entry.{Entry}
+use Rattle.map_model.specs.Stands.{BlockBooks}
 use Rattle.disk_model.specs.Files.{Files}
 use Rattle.disk_model.specs.Marks.{GivenBetween, Mark}
-use Rattle.map_model.specs.Stands.{Leftover}
 use Rattle.pool_state.specs.Answers.{unlimited, StepsTo, TakesStep, IsQuiet}
 use Rattle.run_model.specs.Images.{CrashSafe}
 use Rattle.pool_state.specs.Stands.{with_cell, PoolStands}
@@ -42,67 +41,68 @@ pub put_other : {X : Type 0} (id key : ℕ) (new old : X) → id ≢ key → (if
 put_other id key new old apart = rw (ne_eqb id key apart) refl
 
 -- where a session stands, nothing need be known of the meta files
-pub loose : {told : Option (List World)} {volumes : ℕ} {entries : ℕ → Option Entry} {found : ℕ → List Leftover} {writers : ℕ → Option Writer} {state : RunState} →
-    Standing told volumes entries found writers state → PoolStands told volumes entries found nothing state.cells
+pub loose : {told : Option (List World)} {volumes : ℕ} {books : ℕ → BlockBooks} {writers : ℕ → Option Writer} {state : RunState} →
+    Standing told volumes books writers state → PoolStands told volumes books nothing state.cells
 loose standing = stands_for_less (λ id content replica fits. tt) standing.pool
 
 -- a writer of another block
-open_on : (told told' : Option (List World)) (entries entries' : ℕ → Option Entry) (id : ℕ) (cell : Cell) (numbers : Numbers) (w : Writer) →
-    (IsSome told' → IsSome told) → entries' id ≡ entries id → OpenWriter told entries id cell numbers w → OpenWriter told' entries' id cell numbers w
-open_on told told' entries entries' id cell numbers w honest same open_there = record {
+open_on : (told told' : Option (List World)) (books books' : ℕ → BlockBooks) (id : ℕ) (cell : Cell) (numbers : Numbers) (w : Writer) →
+    (IsSome told' → IsSome told) → books' id ≡ books id → OpenWriter told books id cell numbers w → OpenWriter told' books' id cell numbers w
+open_on told told' books books' id cell numbers w honest same open_there = record {
   of = open_there.of;
   bytes = open_there.bytes;
   grows = open_there.grows;
   stands = record {
     valid = open_there.stands.valid;
+    rev = open_there.stands.rev;
     block_number = open_there.stands.block_number;
     meta_number = open_there.stands.meta_number;
-    entry = ap entries' open_there.of ∙ same ∙ ap entries (sym open_there.of) ∙ open_there.stands.entry;
+    is = ap books' open_there.of ∙ same ∙ ap books (sym open_there.of) ∙ open_there.stands.is;
     block = open_there.stands.block;
     meta = open_there.stands.meta;
-    pushed = (stands_elsewhere {entries' = entries} open_there.stands honest refl).pushed;
+    pushed = (stands_elsewhere {books' = books} open_there.stands honest refl).pushed;
   };
   block_given = open_there.block_given;
   meta_given = open_there.meta_given;
 }
 
-keeps_open : (told told' : Option (List World)) (entries entries' : ℕ → Option Entry) (id : ℕ) (cell : Cell) (numbers : Numbers) (w : Option Writer) →
-    (IsSome told' → IsSome told) → entries' id ≡ entries id → MatchOption w (NotGrowing cell) (OpenWriter told entries id cell numbers) →
-    MatchOption w (NotGrowing cell) (OpenWriter told' entries' id cell numbers)
-keeps_open told told' entries entries' id cell numbers None honest same here = here
-keeps_open told told' entries entries' id cell numbers (Some w) honest same here = open_on told told' entries entries' id cell numbers w honest same here
+keeps_open : (told told' : Option (List World)) (books books' : ℕ → BlockBooks) (id : ℕ) (cell : Cell) (numbers : Numbers) (w : Option Writer) →
+    (IsSome told' → IsSome told) → books' id ≡ books id → MatchOption w (NotGrowing cell) (OpenWriter told books id cell numbers) →
+    MatchOption w (NotGrowing cell) (OpenWriter told' books' id cell numbers)
+keeps_open told told' books books' id cell numbers None honest same here = here
+keeps_open told told' books books' id cell numbers (Some w) honest same here = open_on told told' books books' id cell numbers w honest same here
 
 -- A TENURE ON ONE BLOCK: the others' writers stay
-pub goes_on : {told told' : Option (List World)} {volumes volumes' : ℕ} {entries entries' : ℕ → Option Entry} {found found' : ℕ → List Leftover} {writers writers' : ℕ → Option Writer} {state : RunState} →
-    Standing told volumes entries found writers state → (id : ℕ) (cell : Cell) {metas : Metas} (numbers : ℕ → Numbers) →
-    PoolStands told' volumes' entries' found' (exactly metas) (with_cell state.cells id cell) → (IsSome told' → IsSome told) →
-    ((other : ℕ) → other ≢ id → entries' other ≡ entries other) → ((other : ℕ) → other ≢ id → writers' other ≡ writers other) →
+pub goes_on : {told told' : Option (List World)} {volumes volumes' : ℕ} {books books' : ℕ → BlockBooks} {writers writers' : ℕ → Option Writer} {state : RunState} →
+    Standing told volumes books writers state → (id : ℕ) (cell : Cell) {metas : Metas} (numbers : ℕ → Numbers) →
+    PoolStands told' volumes' books' (exactly metas) (with_cell state.cells id cell) → (IsSome told' → IsSome told) →
+    ((other : ℕ) → other ≢ id → books' other ≡ books other) → ((other : ℕ) → other ≢ id → writers' other ≡ writers other) →
     ((other : ℕ) → other ≢ id → numbers other ≡ state.writers other) →
-    MatchOption (writers' id) (NotGrowing cell) (OpenWriter told' entries' id cell (numbers id)) →
-    Standing told' volumes' entries' found' writers' (record { cells = with_cell state.cells id cell; metas = metas; writers = numbers })
-goes_on {told} {told'} {volumes} {volumes'} {entries} {entries'} {found} {found'} {writers} {writers'} {state} standing id cell {metas} numbers pool honest entries_stay writers_stay numbers_stay own = record {
+    MatchOption (writers' id) (NotGrowing cell) (OpenWriter told' books' id cell (numbers id)) →
+    Standing told' volumes' books' writers' (record { cells = with_cell state.cells id cell; metas = metas; writers = numbers })
+goes_on {told} {told'} {volumes} {volumes'} {books} {books'} {writers} {writers'} {state} standing id cell {metas} numbers pool honest books_stay writers_stay numbers_stay own = record {
   pool = pool;
   writer = λ other valid. elim (cases_eq other id) [
     | inl same ↦
-        subst (λ n. MatchOption (writers' n) (NotGrowing (with_cell state.cells id cell n)) (OpenWriter told' entries' n (with_cell state.cells id cell n) (numbers n))) (sym same)
-        (subst (λ c. MatchOption (writers' id) (NotGrowing c) (OpenWriter told' entries' id c (numbers id))) (sym (with_cell-here state.cells id cell)) own)
+        subst (λ n. MatchOption (writers' n) (NotGrowing (with_cell state.cells id cell n)) (OpenWriter told' books' n (with_cell state.cells id cell n) (numbers n))) (sym same)
+        (subst (λ c. MatchOption (writers' id) (NotGrowing c) (OpenWriter told' books' id c (numbers id))) (sym (with_cell-here state.cells id cell)) own)
     | inr apart ↦
-        subst (λ c. MatchOption (writers' other) (NotGrowing c) (OpenWriter told' entries' other c (numbers other))) (sym (with_cell-other state.cells id cell other apart))
-        (subst (λ n. MatchOption (writers' other) (NotGrowing (state.cells other)) (OpenWriter told' entries' other (state.cells other) n)) (sym (numbers_stay other apart))
-        (subst (λ w. MatchOption w (NotGrowing (state.cells other)) (OpenWriter told' entries' other (state.cells other) (state.writers other))) (sym (writers_stay other apart))
-        (keeps_open told told' entries entries' other (state.cells other) (state.writers other) (writers other) honest (entries_stay other apart) (standing.writer other valid))))
+        subst (λ c. MatchOption (writers' other) (NotGrowing c) (OpenWriter told' books' other c (numbers other))) (sym (with_cell-other state.cells id cell other apart))
+        (subst (λ n. MatchOption (writers' other) (NotGrowing (state.cells other)) (OpenWriter told' books' other (state.cells other) n)) (sym (numbers_stay other apart))
+        (subst (λ w. MatchOption w (NotGrowing (state.cells other)) (OpenWriter told' books' other (state.cells other) (state.writers other))) (sym (writers_stay other apart))
+        (keeps_open told told' books books' other (state.cells other) (state.writers other) (writers other) honest (books_stay other apart) (standing.writer other valid))))
   ];
 }
 
 -- where the same cells stand, and the same writers are open
-pub stays_on : {told told' : Option (List World)} {volumes volumes' : ℕ} {entries entries' : ℕ → Option Entry} {found found' : ℕ → List Leftover} {writers writers' : ℕ → Option Writer} {state : RunState} →
-    Standing told volumes entries found writers state → PoolStands told' volumes' entries' found' (exactly state.metas) state.cells → (IsSome told' → IsSome told) →
-    ((id : ℕ) → entries' id ≡ entries id) → ((id : ℕ) → writers' id ≡ writers id) → Standing told' volumes' entries' found' writers' state
-stays_on {told} {told'} {volumes} {volumes'} {entries} {entries'} {found} {found'} {writers} {writers'} {state} standing pool honest entries_stay writers_stay = record {
+pub stays_on : {told told' : Option (List World)} {volumes volumes' : ℕ} {books books' : ℕ → BlockBooks} {writers writers' : ℕ → Option Writer} {state : RunState} →
+    Standing told volumes books writers state → PoolStands told' volumes' books' (exactly state.metas) state.cells → (IsSome told' → IsSome told) →
+    ((id : ℕ) → books' id ≡ books id) → ((id : ℕ) → writers' id ≡ writers id) → Standing told' volumes' books' writers' state
+stays_on {told} {told'} {volumes} {volumes'} {books} {books'} {writers} {writers'} {state} standing pool honest books_stay writers_stay = record {
   pool = pool;
   writer = λ id valid.
-      subst (λ w. MatchOption w (NotGrowing (state.cells id)) (OpenWriter told' entries' id (state.cells id) (state.writers id))) (sym (writers_stay id))
-      (keeps_open told told' entries entries' id (state.cells id) (state.writers id) (writers id) honest (entries_stay id) (standing.writer id valid));
+      subst (λ w. MatchOption w (NotGrowing (state.cells id)) (OpenWriter told' books' id (state.cells id) (state.writers id))) (sym (writers_stay id))
+      (keeps_open told told' books books' id (state.cells id) (state.writers id) (writers id) honest (books_stay id) (standing.writer id valid));
 }
 
 -- the open writer of a block, and that it has none
@@ -113,10 +113,10 @@ pub no_writer_of_block : (P : Type 0) (Q : Writer → Type 0) (o : Option Writer
 no_writer_of_block P Q o is here = subst (λ v. MatchOption v P Q) is here
 
 -- a block that doesn't grow has no open writer
-pub none_open : (told : Option (List World)) (entries : ℕ → Option Entry) (id : ℕ) (cell : Cell) (numbers : Numbers) (o : Option Writer) → NotGrowing cell →
-    MatchOption o (NotGrowing cell) (OpenWriter told entries id cell numbers) → o ≡ None
-none_open told entries id cell numbers None rests here = refl
-none_open told entries id cell numbers (Some w) rests here = absurd (subst NotGrowing here.grows rests)
+pub none_open : (told : Option (List World)) (books : ℕ → BlockBooks) (id : ℕ) (cell : Cell) (numbers : Numbers) (o : Option Writer) → NotGrowing cell →
+    MatchOption o (NotGrowing cell) (OpenWriter told books id cell numbers) → o ≡ None
+none_open told books id cell numbers None rests here = refl
+none_open told books id cell numbers (Some w) rests here = absurd (subst NotGrowing here.grows rests)
 
 -- what is seen of the open writers, where they are as before, or one was put
 pub seen_same : {X : Type 0} (f : X → Writer) (new old : ℕ → Option X) → ((id : ℕ) → new id ≡ old id) → (id : ℕ) → option_map f (new id) ≡ option_map f (old id)
@@ -179,10 +179,10 @@ pub same_meta : (old new : Writer) (m m' vol vol' : ℕ) (path path' : List ℕ)
 same_meta old new m m' vol vol' path path' keeps was is = ap (λ (d : DraftPlace). d.number) (same_Some _ _ (sym is ∙ keeps ∙ was))
 
 -- an open writer that went on
-pub open_goes_on : (told told' : Option (List World)) (entries entries' : ℕ → Option Entry) (id : ℕ) (cell cell' : Cell) (numbers : Numbers) (old new : Writer) (bytes : List ℕ) →
-    OpenWriter told entries id cell numbers old → Keeps old new → new.meta ≡ old.meta → WriterStands told' entries' new bytes → cell' ≡ growing new.stamp None bytes (new.reserved - new.len) →
-    OpenWriter told' entries' id cell' numbers new
-open_goes_on told told' entries entries' id cell cell' numbers old new bytes was keeps keeps_meta stands grows = record {
+pub open_goes_on : (told told' : Option (List World)) (books books' : ℕ → BlockBooks) (id : ℕ) (cell cell' : Cell) (numbers : Numbers) (old new : Writer) (bytes : List ℕ) →
+    OpenWriter told books id cell numbers old → Keeps old new → new.meta ≡ old.meta → WriterStands told' books' new bytes → cell' ≡ growing new.stamp None bytes (new.reserved - new.len) →
+    OpenWriter told' books' id cell' numbers new
+open_goes_on told told' books books' id cell cell' numbers old new bytes was keeps keeps_meta stands grows = record {
   of = keeps.id ∙ was.of;
   bytes = bytes;
   grows = grows;

@@ -8,12 +8,11 @@ use Rattle.disk_model.specs.Worlds.{World}
 use Rattle.indexmap.specs.IndexMap.{get}
 use Rattle.volume_layout.specs.Paths.{IsBlockId}
 use Rattle.disk_model.specs.Marks.{mark_of, GivenBetween, faulty_of}
-use Rattle.map_model.specs.Stands.{Leftover}
 use Rattle.map_model.specs.Sound.{matching, exactly}
 use Rattle.map_model.specs.Cells.{Cell, Cells, absent, final, growing, unsure, waiting}
 use Rattle.map_model.specs.Steps.{Command}
-use Rattle.pool_state.specs.declared.entry.Entry.{Entry}
-use Rattle.pool_state.specs.Books.{entry_at, found_at}
+use Rattle.map_model.specs.Stands.{BlockBooks}
+use Rattle.pool_state.specs.Books.{block_books}
 use Rattle.pool_state.specs.Stands.{PoolStands, Stands}
 use Rattle.pair_draft.specs.Writers.{Writer, writer_of}
 use Rattle.pool_state.specs.Writers.{WriterStands}
@@ -33,18 +32,18 @@ NotGrowing waiting = ⊤
 
 -- an open writer of a block: it belongs to the pool, the cell grows as it does, and its drafts' numbers are among those
 -- noted
-pub record OpenWriter (told : Option (List World)) (entries : ℕ → Option Entry) (id : ℕ) (cell : Cell) (numbers : Numbers) (w : Writer) : Type 0 where
+pub record OpenWriter (told : Option (List World)) (books : ℕ → BlockBooks) (id : ℕ) (cell : Cell) (numbers : Numbers) (w : Writer) : Type 0 where
   pub of : w.id ≡ id
   pub bytes : List ℕ
   pub grows : cell ≡ growing w.stamp None bytes (w.reserved - w.len)
-  pub stands : WriterStands told entries w bytes
+  pub stands : WriterStands told books w bytes
   pub block_given : GivenBetween numbers.first numbers.last stands.block_number
   pub meta_given : GivenBetween numbers.first numbers.last stands.meta_number
 
--- disks, entries and open writers stand for the state of a run: its cells, of which these are the meta files
-pub record Standing (told : Option (List World)) (volumes : ℕ) (entries : ℕ → Option Entry) (found : ℕ → List Leftover) (writers : ℕ → Option Writer) (state : RunState) : Type 0 where
-  pub pool : PoolStands told volumes entries found (exactly state.metas) state.cells
-  pub writer : (id : ℕ) → IsBlockId id → MatchOption (writers id) (NotGrowing (state.cells id)) (OpenWriter told entries id (state.cells id) (state.writers id))
+-- disks, books and open writers stand for the state of a run: its cells, of which these are the meta files
+pub record Standing (told : Option (List World)) (volumes : ℕ) (books : ℕ → BlockBooks) (writers : ℕ → Option Writer) (state : RunState) : Type 0 where
+  pub pool : PoolStands told volumes books (exactly state.metas) state.cells
+  pub writer : (id : ℕ) → IsBlockId id → MatchOption (writers id) (NotGrowing (state.cells id)) (OpenWriter told books id (state.cells id) (state.writers id))
 
 module _ {D S T R : Type 0} {g : Ghosts D S T R} {d : drafts.Ghosts T S} {s : sealed.Ghosts S} {r : readers.Ghosts R} where
   -- the open writer of a block
@@ -58,7 +57,7 @@ module _ {D S T R : Type 0} {g : Ghosts D S T R} {d : drafts.Ghosts T S} {s : se
   -- a session stands for the state of a run
   abbrev pub SessionStands : Session D S T R g d s r → RunState → Type 0
   SessionStands session state =
-      Standing (g.worlds session.pool.disks) (g.volume_count session.pool.disks) (entry_at session.pool.map) (found_at session.pool.map) (open_writer session) state
+      Standing (g.worlds session.pool.disks) (g.volume_count session.pool.disks) (block_books session.pool.map) (open_writer session) state
 
   -- a session stands for some state of a run
   abbrev pub SessionStandsForSome : Session D S T R g d s r → Type 0

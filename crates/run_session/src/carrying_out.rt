@@ -1,6 +1,5 @@
 //! Carrying out the command of a line.
 ghost use Rattle.std.specs.Prelude.{true, ◌≡◌, ◌<◌};
-ghost use Rattle.map_model.specs.Steps.{push, finish, read, delete};
 ghost use Rattle.disk_model.specs.Marks.{GoesOn};
 ghost use Rattle.run_model.specs.State.{RunState};
 ghost use Rattle.run_model.specs.Carrying.{is_on_block};

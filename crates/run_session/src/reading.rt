@@ -1,6 +1,5 @@
 //! Reading a replica.
 ghost use Rattle.std.specs.Prelude.{◌<◌};
-ghost use Rattle.indexmap.specs.IndexMap.{get};
 ghost use Rattle.map_model.specs.Steps.{read};
 ghost use Rattle.disk_model.specs.Marks.{GoesOn};
 ghost use Rattle.run_model.specs.State.{RunState};

@@ -2,7 +2,7 @@ use Rattle.std.proofs.Common.{Err, refl, sym, ap, subst}
 use Rattle.std.specs.Prelude.{MatchOption}
 use Rattle.map_model.specs.Steps.{done}
 use Rattle.pool_state.specs.Answers.{delete_fault}
-use Rattle.pool_state.specs.Books.{entry_at}
+use Rattle.pool_state.specs.Books.{block_books}
 use Rattle.run_session.specs.Standing.{NotGrowing, OpenWriter}
 use Rattle.run_session.proofs.Stepping.{loose, crash_takes, crash_same, goes_on, none_open, carried_same, carried_on}
 use Rattle.run_session.proofs.Stepped.{delete_gives_nothing, deletable, says_delete, delete_not_failed, delete_not_memory, only_failure, deleted_rests}
@@ -27,7 +27,7 @@ returns-in-Ok-clause-step g c state standing =
     let none = none_open _ _ id (state.cells id) (state.writers id) _ (deletable (state.cells id) free) (standing.writer id c.delete_refusal.ensures.valid) in
     carried_on t.to.cell
     (goes_on standing id t.to.cell state.writers (t.to.stands _ standing.pool) c.delete.ensures.goes_on.honest.1 c.delete.ensures.others (λ other apart. refl) (λ other apart. refl)
-    (subst (λ o. MatchOption o (NotGrowing t.to.cell) (OpenWriter (g.D.PoolDisks.worlds c.delete.new.self.disks) (entry_at c.delete.new.self.map) id t.to.cell (state.writers id))) (sym none)
+    (subst (λ o. MatchOption o (NotGrowing t.to.cell) (OpenWriter (g.D.PoolDisks.worlds c.delete.new.self.disks) (block_books c.delete.new.self.map) id t.to.cell (state.writers id))) (sym none)
     (subst NotGrowing (sym (t.to.says.1 refl)) tt)))
     (crash_takes both) done (λ trust known. refl) t.to.step (λ e. absurd cc) (λ e w. absurd cc) refl refl (λ no. absurd no)
 
@@ -43,7 +43,7 @@ returns-in-Err-clause-step g c state standing =
     let left = t.to.says.0 (ap Err is) in
     carried_on t.to.cell
     (goes_on standing id t.to.cell state.writers (t.to.stands _ standing.pool) c.delete.ensures.goes_on.honest.1 c.delete.ensures.others (λ other apart. refl) (λ other apart. refl)
-    (subst (λ o. MatchOption o (NotGrowing t.to.cell) (OpenWriter (g.D.PoolDisks.worlds c.delete.new.self.disks) (entry_at c.delete.new.self.map) id t.to.cell (state.writers id))) (sym none)
+    (subst (λ o. MatchOption o (NotGrowing t.to.cell) (OpenWriter (g.D.PoolDisks.worlds c.delete.new.self.disks) (block_books c.delete.new.self.map) id t.to.cell (state.writers id))) (sym none)
     (subst NotGrowing (sym left) (deleted_rests (state.cells id) free))))
     (crash_takes both) (delete_fault fault) (λ trust known. says_delete trust (state.metas c.args.id) fault _ c.delete_refusal_of-in-Err.ensures) t.to.step
     (λ e. (c.in-Err.ensures.failed (ap Err is), left)) (λ e w. absurd (delete_not_memory fault e)) refl refl (λ no. absurd (delete_gives_nothing fault no))

@@ -2,9 +2,10 @@ use Rattle.std.proofs.Common.{◌≡◌, ◌-◌, None, refl, sym, ◌∙◌, ap
 use Rattle.std.specs.Prelude.{MatchOption}
 use Rattle.map_model.specs.Cells.{growing}
 use Rattle.map_model.specs.Steps.{done, failed, no_writer}
-use Rattle.pool_state.specs.Books.{entry_at}
+use Rattle.map_model.specs.Stands.{BlockBooks}
+use Rattle.pool_state.specs.Answers.{IsWritten}
+use Rattle.pool_state.specs.Books.{block_books}
 use Rattle.pair_draft.specs.Writers.{writer_of}
-use Rattle.pool_state.proofs.Belonging.{writer_belongs}
 use Rattle.run_session.specs.Standing.{NotGrowing, OpenWriter}
 use Rattle.run_session.proofs.Stepping.{loose, at_block, crash_takes, crash_same, goes_on, stays_on, carried_same, carried_on, seen_same, took, writer_of_block, no_writer_of_block}
 use Rattle.run_session.proofs.Stepped.{no_drop, same_entries}
@@ -22,12 +23,12 @@ returns-in_default-clause-step g c state standing =
 pub drop_write-requires-clause-stands : goal.drop_write-requires-clause-stands
 drop_write-requires-clause-stands g c = (_, loose c.requires.stands.1)
 
-pub drop_write-requires-clause-belongs : goal.drop_write-requires-clause-belongs
-drop_write-requires-clause-belongs g c =
+pub drop_write-requires-clause-writes : goal.drop_write-requires-clause-writes
+drop_write-requires-clause-writes g c =
     let f = writer_of g.D.Draft.Draft.place g.D.Draft.Draft.bytes in
     let w = c.in-Some.writer in
     let at = writer_of_block _ _ _ (f w) (ap (option_map f) (sym c.in-Some.ensures.found)) (c.requires.stands.1.writer c.args.id c.remove.ensures.valid) in
-    writer_belongs at.stands
+    subst (λ (b : BlockBooks). IsWritten b.entry) (sym at.stands.is) tt
 
 pub returns-in-Ok-clause-step : goal.returns-in-Ok-clause-step
 returns-in-Ok-clause-step g c state standing =
@@ -41,7 +42,7 @@ returns-in-Ok-clause-step g c state standing =
     let seen = took f id _ _ c.in-Some.ensures.taken in
     carried_on t.to.cell
     (goes_on standing id t.to.cell state.writers (t.to.stands _ standing.pool) c.in-Ok.ensures.goes_on.honest.1 (λ other apart. c.in-Ok.ensures.others other (λ e. apart (e ∙ at.of))) seen.0 (λ other apart. refl)
-    (subst (λ o. MatchOption o (NotGrowing t.to.cell) (OpenWriter (g.D.PoolDisks.worlds c.drop_write.new.self.disks) (entry_at c.drop_write.new.self.map) id t.to.cell (state.writers id))) (sym seen.1)
+    (subst (λ o. MatchOption o (NotGrowing t.to.cell) (OpenWriter (g.D.PoolDisks.worlds c.drop_write.new.self.disks) (block_books c.drop_write.new.self.map) id t.to.cell (state.writers id))) (sym seen.1)
     (subst NotGrowing (sym (t.to.says.1 refl)) tt)))
     (crash_takes both) done (λ trust known. refl) t.to.step (λ e. absurd cc) (λ e x. absurd cc) refl refl (λ no. absurd no)
 
@@ -57,6 +58,6 @@ returns-in-Err-clause-step g c state standing =
     let seen = took f id _ _ c.in-Some.ensures.taken in
     carried_on t.to.cell
     (goes_on standing id t.to.cell state.writers (t.to.stands _ standing.pool) c.in-Err.ensures.goes_on.honest.1 (λ other apart. c.in-Err.ensures.others other (λ e. apart (e ∙ at.of))) seen.0 (λ other apart. refl)
-    (subst (λ o. MatchOption o (NotGrowing t.to.cell) (OpenWriter (g.D.PoolDisks.worlds c.drop_write.new.self.disks) (entry_at c.drop_write.new.self.map) id t.to.cell (state.writers id))) (sym seen.1)
+    (subst (λ o. MatchOption o (NotGrowing t.to.cell) (OpenWriter (g.D.PoolDisks.worlds c.drop_write.new.self.disks) (block_books c.drop_write.new.self.map) id t.to.cell (state.writers id))) (sym seen.1)
     (subst NotGrowing (sym (t.to.says.0 refl)) tt)))
     (crash_takes both) failed (λ trust known. refl) t.to.step (λ e. c.in-Err.ensures.failed refl) (λ e x. absurd cc) refl refl (λ no. absurd no)

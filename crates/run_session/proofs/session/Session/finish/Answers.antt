@@ -3,12 +3,12 @@ use Rattle.std.specs.Prelude.{MatchOption, IsSome}
 use Rattle.map_model.specs.Cells.{growing}
 use Rattle.map_model.specs.Steps.{Step, finish, done, failed, memory, no_writer}
 use Rattle.pool_state.specs.Answers.{unlimited}
-use Rattle.pool_state.specs.Books.{entry_at, found_at}
+use Rattle.pool_state.specs.Books.{block_books}
 use Rattle.pair_draft.specs.Writers.{writer_of}
 use Rattle.run_model.specs.Commands.{FailsBy}
 use Rattle.pool_state.specs.Stands.{PoolStands}
 use Rattle.pool_state.proofs.Belonging.{stands_sealed}
-use Rattle.pool_state.proofs.Starting.{with_cell-same}
+use Rattle.pool_state.proofs.Changing.{with_cell-same}
 use Rattle.disk_model.specs.Marks.{faulty_of, mark_of}
 use Rattle.run_session.specs.Standing.{NotGrowing, OpenWriter}
 use Rattle.run_session.proofs.Stepping.{loose, at_block, crash_takes, crash_same, crash_only, goes_on, stays_on, carried_same, carried_learning, carried_on, seen_same, seen_some, put_back, took, writer_of_block, no_writer_of_block}
@@ -70,7 +70,7 @@ returns-in-Ok-finish-clause-step g c state standing =
     let seen = took f id _ _ c.in-Ok.ensures.taken in
     carried_learning t.to.cell (with_meta state.metas pair.id pair.stamp (meta_of belongs))
     (goes_on standing id t.to.cell state.writers (t.to.stands _ standing.pool) c.finish.ensures.goes_on.honest.1 (λ other apart. c.finish.ensures.others other (λ e. apart (e ∙ key))) seen.0 (λ other apart. refl)
-    (subst (λ o. MatchOption o (NotGrowing t.to.cell) (OpenWriter (g.D.PoolDisks.worlds c.finish.new.self.disks) (entry_at c.finish.new.self.map) id t.to.cell (state.writers id))) (sym seen.1)
+    (subst (λ o. MatchOption o (NotGrowing t.to.cell) (OpenWriter (g.D.PoolDisks.worlds c.finish.new.self.disks) (block_books c.finish.new.self.map) id t.to.cell (state.writers id))) (sym seen.1)
     (subst NotGrowing (sym (t.to.says.1 refl)) tt)))
     (crash_takes both) done (λ trust known. refl) t.to.step (λ e. absurd cc) (λ e x. absurd cc) refl
     (learns_final state.metas id pair.id pair.stamp at.bytes (meta_of belongs) key belongs.sealed.of_bytes.matches t.to.cell (t.to.says.1 refl)) (λ no. absurd no)
@@ -93,7 +93,7 @@ returns-in-Err-finish-clause-step g c state standing =
     let seen = took f id _ _ c.in-Ok.ensures.taken in
     carried_learning t.to.cell (with_meta state.metas pair.id pair.stamp (meta_of belongs))
     (goes_on standing id t.to.cell state.writers (t.to.stands _ standing.pool) c.finish.ensures.goes_on.honest.1 (λ other apart. c.finish.ensures.others other (λ e. apart (e ∙ key))) seen.0 (λ other apart. refl)
-    (subst (λ o. MatchOption o (NotGrowing t.to.cell) (OpenWriter (g.D.PoolDisks.worlds c.finish.new.self.disks) (entry_at c.finish.new.self.map) id t.to.cell (state.writers id))) (sym seen.1)
+    (subst (λ o. MatchOption o (NotGrowing t.to.cell) (OpenWriter (g.D.PoolDisks.worlds c.finish.new.self.disks) (block_books c.finish.new.self.map) id t.to.cell (state.writers id))) (sym seen.1)
     (subst NotGrowing (sym (t.to.says.0 refl)) tt)))
     (crash_takes both) failed (λ trust known. refl) t.to.step
     (λ e. subst (FailsBy (faulty_of g.D.Draft.Draft g.D.Reader.Reader) (mark_of g.D.PoolDisks c.args.self.now.pool.disks) (mark_of g.D.PoolDisks c.finish.new.self.disks) (state.writers id) (state.cells id) finish) (sym (t.to.says.0 refl)) (c.in-Err-finish.ensures.failed refl)) (λ e x. absurd cc) refl
@@ -104,19 +104,19 @@ returns-in-Err-Memory-default-clause-step g c state standing =
     let id = c.args.id in
     let f = writer_of g.D.Draft.Draft.place g.D.Draft.Draft.bytes in
     let told = g.D.PoolDisks.worlds c.args.self.now.pool.disks in
-    let entries = entry_at c.args.self.now.pool.map in
+    let books = block_books c.args.self.now.pool.map in
     let w = c.in-Ok.writer in
     let e = c.in-Err-Memory-default in
     let new = e.writer in
     let at = writer_of_block _ _ _ (f w) (ap (option_map f) c.in-Ok.ensures.ok) (standing.writer id c.take.ensures.valid) in
     let same = e.ensures.same e.field-0-0-is in
-    let open_still = subst (OpenWriter told entries id (state.cells id) (state.writers id)) (sym same) at in
+    let open_still = subst (OpenWriter told books id (state.cells id) (state.writers id)) (sym same) at in
     let seen = put_back f id new.id _ _ _ new open_still.of c.in-Ok.ensures.taken c.put.ensures.put in
     carried_on (state.cells id)
-    (goes_on standing id (state.cells id) state.writers (subst (PoolStands told (g.D.PoolDisks.volume_count c.args.self.now.pool.disks) entries (found_at c.args.self.now.pool.map) (exactly state.metas)) (sym (with_cell-same state.cells id)) standing.pool)
+    (goes_on standing id (state.cells id) state.writers (subst (PoolStands told (g.D.PoolDisks.volume_count c.args.self.now.pool.disks) books (exactly state.metas)) (sym (with_cell-same state.cells id)) standing.pool)
     (λ x. x) (λ other apart. refl) seen.0 (λ other apart. refl)
-    (subst (λ o. MatchOption o (NotGrowing (state.cells id)) (OpenWriter told entries id (state.cells id) (state.writers id))) (sym seen.1) open_still))
-    (crash_only (λ sound. subst (PoolStands told (g.D.PoolDisks.volume_count c.args.self.now.pool.disks) entries (found_at c.args.self.now.pool.map) matching) (sym (with_cell-same state.cells id)) sound)) memory (λ trust known. refl) (subst (λ x. Step unlimited x finish memory x) (sym at.grows) (memory_finish w.stamp (w.reserved - w.len) at.bytes))
+    (subst (λ o. MatchOption o (NotGrowing (state.cells id)) (OpenWriter told books id (state.cells id) (state.writers id))) (sym seen.1) open_still))
+    (crash_only (λ sound. subst (PoolStands told (g.D.PoolDisks.volume_count c.args.self.now.pool.disks) books matching) (sym (with_cell-same state.cells id)) sound)) memory (λ trust known. refl) (subst (λ x. Step unlimited x finish memory x) (sym at.grows) (memory_finish w.stamp (w.reserved - w.len) at.bytes))
     (λ bad. absurd cc) (λ same waits. absurd (grows_not (state.cells id) w.stamp at.bytes (w.reserved - w.len) at.grows waits)) refl refl (λ no. absurd no)
 
 pub returns-in-Err-Failed-default-clause-step : goal.returns-in-Err-Failed-default-clause-step
@@ -133,7 +133,7 @@ returns-in-Err-Failed-default-clause-step g c state standing =
     let seen = took f id _ _ c.in-Ok.ensures.taken in
     carried_on t.to.cell
     (goes_on standing id t.to.cell state.writers (t.to.stands _ standing.pool) (λ x. subst IsSome (ap g.D.PoolDisks.worlds c.fail_write.ensures.disks) x) (λ other apart. c.fail_write.ensures.others other (λ same. apart (same ∙ key))) seen.0 (λ other apart. refl)
-    (subst (λ o. MatchOption o (NotGrowing t.to.cell) (OpenWriter (g.D.PoolDisks.worlds c.fail_write.new.self.disks) (entry_at c.fail_write.new.self.map) id t.to.cell (state.writers id))) (sym seen.1)
+    (subst (λ o. MatchOption o (NotGrowing t.to.cell) (OpenWriter (g.D.PoolDisks.worlds c.fail_write.new.self.disks) (block_books c.fail_write.new.self.map) id t.to.cell (state.writers id))) (sym seen.1)
     (subst NotGrowing (sym t.to.says) tt)))
     (crash_takes both) failed (λ trust known. refl) t.to.step
     (λ same. subst (FailsBy (faulty_of g.D.Draft.Draft g.D.Reader.Reader) (mark_of g.D.PoolDisks c.args.self.now.pool.disks) (mark_of g.D.PoolDisks c.fail_write.new.self.disks) (state.writers id) (state.cells id) finish) (sym t.to.says)

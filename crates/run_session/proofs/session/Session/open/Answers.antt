@@ -42,7 +42,7 @@ returns-in-Err-start_write-clause-step g c state standing =
     carried_on t.to.cell
     (goes_on standing c.args.id t.to.cell state.writers (t.to.stands _ standing.pool) c.in-Err-start_write.ensures.goes_on.honest.1 c.in-Err-start_write.ensures.others
     (λ other apart. seen_same f _ _ c.make_room.ensures.same other) (λ other apart. refl)
-    (subst (λ o. MatchOption o (NotGrowing t.to.cell) (OpenWriter (g.D.PoolDisks.worlds c.start_write.new.self.disks) (Rattle.pool_state.specs.Books.entry_at c.start_write.new.self.map) c.args.id t.to.cell (state.writers c.args.id))) (sym (seen_same f _ _ c.make_room.ensures.same c.args.id ∙ none)) rests))
+    (subst (λ o. MatchOption o (NotGrowing t.to.cell) (OpenWriter (g.D.PoolDisks.worlds c.start_write.new.self.disks) (Rattle.pool_state.specs.Books.block_books c.start_write.new.self.map) c.args.id t.to.cell (state.writers c.args.id))) (sym (seen_same f _ _ c.make_room.ensures.same c.args.id ∙ none)) rests))
     (crash_takes both) (start_fault fault) (λ trust known. says_fault trust (state.metas c.args.id) fault _ c.refusal_of-in-Err-start_write.ensures) t.to.step
     (λ e. (c.in-Err-start_write.ensures.failed (ap Err (is_failed fault e)), t.to.says.0 (ap Err (is_failed fault e))))
     (λ e w. t.to.says.1 (ap Err (is_memory fault e)) w) (begins_nothing c.args.stamp c.args.need fault) refl (λ no. absurd (start_gives_nothing fault no))
@@ -63,7 +63,7 @@ returns-clause-step g c state standing =
     let seen = put_new f id w.id _ _ _ w what.0 c.make_room.ensures.same c.put.ensures.put in
     let left : c.args.need ≡ w.reserved - w.len = omega (arith, what.2, belongs.pushed.len) in
     let grows = t.to.says.3 refl ∙ ap (λ n. growing c.args.stamp None [] n) left ∙ ap (λ s. growing s None [] (w.reserved - w.len)) (sym what.1) in
-    let opened : OpenWriter (g.D.PoolDisks.worlds c.start_write.new.self.disks) (Rattle.pool_state.specs.Books.entry_at c.start_write.new.self.map) id t.to.cell new_numbers (f w) = record {
+    let opened : OpenWriter (g.D.PoolDisks.worlds c.start_write.new.self.disks) (Rattle.pool_state.specs.Books.block_books c.start_write.new.self.map) id t.to.cell new_numbers (f w) = record {
       of = what.0;
       bytes = [];
       grows = grows;
@@ -74,6 +74,6 @@ returns-clause-step g c state standing =
     carried t.to.cell state.metas numbers
     (goes_on standing id t.to.cell numbers (t.to.stands _ standing.pool) c.in-Ok-start_write.ensures.goes_on.honest.1 c.in-Ok-start_write.ensures.others
     seen.0 (λ other apart. put_other other id new_numbers (state.writers other) apart)
-    (subst (λ o. MatchOption o (NotGrowing t.to.cell) (OpenWriter (g.D.PoolDisks.worlds c.start_write.new.self.disks) (Rattle.pool_state.specs.Books.entry_at c.start_write.new.self.map) id t.to.cell (numbers id))) (sym seen.1)
-    (subst (λ n. OpenWriter (g.D.PoolDisks.worlds c.start_write.new.self.disks) (Rattle.pool_state.specs.Books.entry_at c.start_write.new.self.map) id t.to.cell n (f w)) (sym (put_here id id new_numbers (state.writers id) refl)) opened)))
+    (subst (λ o. MatchOption o (NotGrowing t.to.cell) (OpenWriter (g.D.PoolDisks.worlds c.start_write.new.self.disks) (Rattle.pool_state.specs.Books.block_books c.start_write.new.self.map) id t.to.cell (numbers id))) (sym seen.1)
+    (subst (λ n. OpenWriter (g.D.PoolDisks.worlds c.start_write.new.self.disks) (Rattle.pool_state.specs.Books.block_books c.start_write.new.self.map) id t.to.cell n (f w)) (sym (put_here id id new_numbers (state.writers id) refl)) opened)))
     (crash_takes both) done (λ trust known. refl) t.to.step (λ e. absurd cc) (λ e x. absurd cc) (λ other. refl) refl (λ no. absurd no)

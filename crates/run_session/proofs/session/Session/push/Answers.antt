@@ -5,7 +5,7 @@ use Rattle.map_model.specs.Cells.{growing}
 use Rattle.map_model.specs.Sound.{matching}
 use Rattle.map_model.specs.Steps.{Step, push, done, failed, memory, over, no_writer}
 use Rattle.pool_state.specs.Answers.{unlimited, StepsTo}
-use Rattle.pool_state.specs.Books.{entry_at, found_at}
+use Rattle.pool_state.specs.Books.{block_books}
 use Rattle.pool_state.specs.Stands.{PoolStands}
 use Rattle.pair_draft.specs.Writers.{writer_of}
 use Rattle.pool_state.proofs.Belonging.{stands_pushed}
@@ -67,21 +67,20 @@ returns-in-Ok-push-clause-step g c state standing =
     let f = writer_of g.D.Draft.Draft.place g.D.Draft.Draft.bytes in
     let told = g.D.PoolDisks.worlds c.args.self.now.pool.disks in
     let volumes = g.D.PoolDisks.volume_count c.args.self.now.pool.disks in
-    let entries = entry_at c.args.self.now.pool.map in
-    let found = found_at c.args.self.now.pool.map in
+    let books = block_books c.args.self.now.pool.map in
     let piece = c.args.piece.now in
     let at = writer_of_block _ _ _ (f w) (ap (option_map f) c.in-Ok.ensures.ok) (standing.writer id c.take.ensures.valid) in
     let grows : state.cells w.id ≡ growing w.stamp None at.bytes (w.reserved - w.len) = ap state.cells at.of ∙ at.grows in
     let done_so = c.in-Ok-push.ensures in
     let keeps_meta = ap (option_map g.D.Draft.Draft.place) done_so.goes_on in
-    let there = pushes told volumes entries found state.cells (f w) at.bytes piece new.stamp new.len new.reserved at.stands grows done_so.within done_so.keeps.stamp done_so.len done_so.keeps.reserved in
+    let there = pushes told volumes books state.cells (f w) at.bytes piece new.stamp new.len new.reserved at.stands grows done_so.within done_so.keeps.stamp done_so.len done_so.keeps.reserved in
     let t = subst (λ n. StepsTo n (push piece) done (λ cell. cell ≡ growing new.stamp None (at.bytes ++ piece) (new.reserved - new.len)) state.cells
-    (PoolStands told volumes entries found) (PoolStands told volumes entries found)) at.of there in
+    (PoolStands told volumes books) (PoolStands told volumes books)) at.of there in
     let seen = put_back f id new.id _ _ _ new (done_so.keeps.id ∙ at.of) c.in-Ok.ensures.taken c.put.ensures.put in
     carried_on t.cell
     (goes_on standing id t.cell state.writers (t.stands _ standing.pool) (λ x. x) (λ other apart. refl) seen.0 (λ other apart. refl)
-    (subst (λ o. MatchOption o (NotGrowing t.cell) (OpenWriter told entries id t.cell (state.writers id))) (sym seen.1)
-    (open_goes_on told told entries entries id (state.cells id) t.cell (state.writers id) (f w) (f new) (at.bytes ++ piece) at done_so.keeps keeps_meta
+    (subst (λ o. MatchOption o (NotGrowing t.cell) (OpenWriter told books id t.cell (state.writers id))) (sym seen.1)
+    (open_goes_on told told books books id (state.cells id) t.cell (state.writers id) (f w) (f new) (at.bytes ++ piece) at done_so.keeps keeps_meta
     (stands_pushed at.stands done_so.keeps keeps_meta (done_so.pushed told at.bytes at.stands.pushed)) t.says)))
     (crash_only (t.stands matching)) done (λ trust known. refl) t.step (λ e. absurd cc) (λ e x. absurd cc) refl refl (λ no. absurd no)
 
@@ -106,7 +105,7 @@ returns-in-Err-Failed-clause-step g c state standing =
     let seen = took f id _ _ c.in-Ok.ensures.taken in
     carried_on t.to.cell
     (goes_on standing id t.to.cell state.writers (t.to.stands _ standing.pool) (λ x. subst IsSome (ap g.D.PoolDisks.worlds c.fail_write.ensures.disks) x) (λ other apart. c.fail_write.ensures.others other (λ same. apart (same ∙ key))) seen.0 (λ other apart. refl)
-    (subst (λ o. MatchOption o (NotGrowing t.to.cell) (OpenWriter (g.D.PoolDisks.worlds c.fail_write.new.self.disks) (entry_at c.fail_write.new.self.map) id t.to.cell (state.writers id))) (sym seen.1)
+    (subst (λ o. MatchOption o (NotGrowing t.to.cell) (OpenWriter (g.D.PoolDisks.worlds c.fail_write.new.self.disks) (block_books c.fail_write.new.self.map) id t.to.cell (state.writers id))) (sym seen.1)
     (subst NotGrowing (sym t.to.says) tt)))
     (crash_takes both) failed (λ trust known. refl) t.to.step
     (λ same. inl (faulty_block g.D.Draft.Draft.place g.D.Draft.Draft.faults (state.writers id) new.block _ _ _ (e.ensures.keeps.block ∙ at.stands.block) at.block_given (rose_above _ _ faulty.1)))

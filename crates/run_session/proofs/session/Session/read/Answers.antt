@@ -1,7 +1,7 @@
 use Rattle.std.proofs.Common.{inl, inr, Err, length, refl, sym, ◌∙◌, ap, subst}
 use Rattle.map_model.specs.Steps.{Step, read, content, failed, memory}
 use Rattle.pool_state.specs.Answers.{unlimited, start_fault}
-use Rattle.pool_state.specs.Books.{entry_at}
+use Rattle.pool_state.specs.Books.{block_books}
 use Rattle.run_session.specs.Standing.{SoundFor}
 use Rattle.run_session.proofs.Stepping.{loose, crash_rests, stays_on, carried_same}
 use Rattle.run_session.proofs.Stepped.{start_gives_nothing, says_fault, is_failed, no_lack, reads_content, reads_failed, reads_memory, not_waiting, gives_data, gives_verdict, faulty_reader}
@@ -14,7 +14,7 @@ pub returns-in-Err-clause-step : goal.returns-in-Err-clause-step
 returns-in-Err-clause-step g c state standing =
     let fault = c.in-Err.fault in
     let step = c.in-Err.ensures.refused state.cells (loose standing) in
-    carried_same (stays_on standing ((c.start_read.ensures.quiet state.cells (loose standing)).0.stands _ standing.pool) c.start_read.ensures.goes_on.honest.1 (λ id. ap (λ m. entry_at m id) c.start_read.ensures.map) (λ id. refl))
+    carried_same (stays_on standing ((c.start_read.ensures.quiet state.cells (loose standing)).0.stands _ standing.pool) c.start_read.ensures.goes_on.honest.1 (λ id. ap (λ m. block_books m id) c.start_read.ensures.map) (λ id. refl))
     (crash_rests (c.start_read.ensures.quiet state.cells (loose standing)))
     (start_fault fault) (λ trust known. says_fault trust (state.metas c.args.id) fault _ c.refusal_of.ensures) step
     (λ e. inl (c.in-Err.ensures.failed (ap Err (is_failed fault e))))
@@ -24,7 +24,7 @@ pub returns-in-Ok-read_all-clause-step : goal.returns-in-Ok-read_all-clause-step
 returns-in-Ok-read_all-clause-step g c state standing =
     let lent = c.in-Ok.ensures.lent _ state.cells standing.pool in
     let all_read = c.in-Ok-read_all.ensures in
-    carried_same (stays_on standing ((c.start_read.ensures.quiet state.cells (loose standing)).0.stands _ standing.pool) c.start_read.ensures.goes_on.honest.1 (λ id. ap (λ m. entry_at m id) c.start_read.ensures.map) (λ id. refl))
+    carried_same (stays_on standing ((c.start_read.ensures.quiet state.cells (loose standing)).0.stands _ standing.pool) c.start_read.ensures.goes_on.honest.1 (λ id. ap (λ m. block_books m id) c.start_read.ensures.map) (λ id. refl))
     (crash_rests (c.start_read.ensures.quiet state.cells (loose standing)))
     (content lent.replica)
     (λ trust known. gives_data lent (SoundFor c.args.self.now state.cells)
@@ -35,7 +35,7 @@ returns-in-Ok-read_all-clause-step g c state standing =
 pub returns-in-Err-Failed-clause-step : goal.returns-in-Err-Failed-clause-step
 returns-in-Err-Failed-clause-step g c state standing =
     let lent = c.in-Ok.ensures.lent _ state.cells standing.pool in
-    carried_same (stays_on standing ((c.start_read.ensures.quiet state.cells (loose standing)).0.stands _ standing.pool) c.start_read.ensures.goes_on.honest.1 (λ id. ap (λ m. entry_at m id) c.start_read.ensures.map) (λ id. refl))
+    carried_same (stays_on standing ((c.start_read.ensures.quiet state.cells (loose standing)).0.stands _ standing.pool) c.start_read.ensures.goes_on.honest.1 (λ id. ap (λ m. block_books m id) c.start_read.ensures.map) (λ id. refl))
     (crash_rests (c.start_read.ensures.quiet state.cells (loose standing)))
     failed (λ trust known. refl) (reads_failed (state.cells c.args.id) lent.replica lent.cell_is)
     (λ e. inr (inr (elim (c.in-Err-Failed.ensures.failed (ap Err c.in-Err-Failed.field-0-is)) [
@@ -52,7 +52,7 @@ returns-in-Err-Bad-clause-step g c state standing =
     let lent = c.in-Ok.ensures.lent _ state.cells standing.pool in
     let e = c.in-Err-Bad in
     let is = ap Err e.field-0-is in
-    carried_same (stays_on standing ((c.start_read.ensures.quiet state.cells (loose standing)).0.stands _ standing.pool) c.start_read.ensures.goes_on.honest.1 (λ id. ap (λ m. entry_at m id) c.start_read.ensures.map) (λ id. refl))
+    carried_same (stays_on standing ((c.start_read.ensures.quiet state.cells (loose standing)).0.stands _ standing.pool) c.start_read.ensures.goes_on.honest.1 (λ id. ap (λ m. block_books m id) c.start_read.ensures.map) (λ id. refl))
     (crash_rests (c.start_read.ensures.quiet state.cells (loose standing)))
     (content lent.replica)
     (λ trust known. gives_verdict lent (SoundFor c.args.self.now state.cells)
@@ -68,7 +68,7 @@ returns-in-Err-Bad-clause-step g c state standing =
 pub returns-in_default-clause-step : goal.returns-in_default-clause-step
 returns-in_default-clause-step g c state standing =
     let lent = c.in-Ok.ensures.lent _ state.cells standing.pool in
-    carried_same (stays_on standing ((c.start_read.ensures.quiet state.cells (loose standing)).0.stands _ standing.pool) c.start_read.ensures.goes_on.honest.1 (λ id. ap (λ m. entry_at m id) c.start_read.ensures.map) (λ id. refl))
+    carried_same (stays_on standing ((c.start_read.ensures.quiet state.cells (loose standing)).0.stands _ standing.pool) c.start_read.ensures.goes_on.honest.1 (λ id. ap (λ m. block_books m id) c.start_read.ensures.map) (λ id. refl))
     (crash_rests (c.start_read.ensures.quiet state.cells (loose standing)))
     memory (λ trust known. refl) (reads_memory (state.cells c.args.id) lent.replica lent.cell_is)
     (λ e. absurd cc) (λ e w. absurd (not_waiting (state.cells c.args.id) lent.replica lent.cell_is w)) refl refl (λ no. absurd no)
@@ -76,7 +76,7 @@ returns-in_default-clause-step g c state standing =
 pub returns-clause-step : goal.returns-clause-step
 returns-clause-step g c state standing =
     let lent = c.in-Ok.ensures.lent _ state.cells standing.pool in
-    carried_same (stays_on standing ((c.start_read.ensures.quiet state.cells (loose standing)).0.stands _ standing.pool) c.start_read.ensures.goes_on.honest.1 (λ id. ap (λ m. entry_at m id) c.start_read.ensures.map) (λ id. refl))
+    carried_same (stays_on standing ((c.start_read.ensures.quiet state.cells (loose standing)).0.stands _ standing.pool) c.start_read.ensures.goes_on.honest.1 (λ id. ap (λ m. block_books m id) c.start_read.ensures.map) (λ id. refl))
     (crash_rests (c.start_read.ensures.quiet state.cells (loose standing)))
     memory (λ trust known. refl) (reads_memory (state.cells c.args.id) lent.replica lent.cell_is)
     (λ e. absurd cc) (λ e w. absurd (not_waiting (state.cells c.args.id) lent.replica lent.cell_is w)) refl refl (λ no. absurd no)

@@ -5,7 +5,7 @@ use Rattle.disk_model.specs.Marks.{faulty_of, mark_of}
 use Rattle.map_model.specs.Steps.{Step, write}
 use Rattle.pair_draft.specs.Writers.{writer_of}
 use Rattle.pool_state.specs.Answers.{unlimited, start_fault}
-use Rattle.pool_state.specs.Books.{entry_at}
+use Rattle.pool_state.specs.Books.{block_books}
 use Rattle.pool_state.specs.Stands.{with_cell, Stands}
 use Rattle.client_ops.specs.Writing.{op_writer, fill_fault, op_answer, FillStands, EndLeaves}
 use Rattle.client_ops.proofs.Ending.{ends_as_write}
@@ -43,7 +43,7 @@ returns-in-Err-clause-step g c state standing =
     let rests : NotGrowing t.to.cell = elim (t.to.says.2 refl) [ inl same ↦ subst NotGrowing (sym (same ∙ is_absent)) tt | inr waits ↦ subst NotGrowing (sym waits) tt ] in
     carried_on t.to.cell
     (goes_on standing c.args.id t.to.cell state.writers (t.to.stands _ standing.pool) c.in-Err.ensures.goes_on.honest.1 c.in-Err.ensures.others (λ other apart. refl) (λ other apart. refl)
-    (subst (λ o. MatchOption o (NotGrowing t.to.cell) (OpenWriter (g.D.PoolDisks.worlds c.write_start.new.pool.disks) (entry_at c.write_start.new.pool.map) c.args.id t.to.cell (state.writers c.args.id))) (sym none) rests))
+    (subst (λ o. MatchOption o (NotGrowing t.to.cell) (OpenWriter (g.D.PoolDisks.worlds c.write_start.new.pool.disks) (block_books c.write_start.new.pool.map) c.args.id t.to.cell (state.writers c.args.id))) (sym none) rests))
     (crash_takes both) (start_fault fault) (λ trust known. says_fault trust (state.metas c.args.id) fault _ c.refusal_of-in-Err.ensures)
     (write_unstarted (state.cells c.args.id) c.args.stamp c.args.piece.now fault t.to.cell is_absent (omega arith) (t.to.says.2 refl) t.to.step)
     (λ e. subst (FailsBy (faulty_of g.D.Draft.Draft g.D.Reader.Reader) (mark_of g.D.PoolDisks c.args.self.now.pool.disks) (mark_of g.D.PoolDisks c.write_start.new.pool.disks) (state.writers c.args.id) (state.cells c.args.id) (write c.args.stamp c.args.piece.now))
@@ -80,8 +80,8 @@ returns-clause-step g c state standing =
     let p = fill_step id stamp piece (f w) belongs what.0 what.1 what.2 (with_cell-here state.cells id t.to.cell ∙ started) in
     let two = grows_pushed one p in
     let fill = c.op_fill-filled.ensures.stands _ _ belongs in
-    let filled = subst (λ n. FillStands g.D.Draft.Draft.place g.D.Draft.Draft.bytes g.D.Sealed.SealedDraft.place g.D.Sealed.SealedDraft.bytes (g.D.PoolDisks.worlds c.write_start.new.pool.disks) (entry_at c.write_start.new.pool.map) n stamp piece c.op_fill-filled.result) what.0
-    (subst (λ n. FillStands g.D.Draft.Draft.place g.D.Draft.Draft.bytes g.D.Sealed.SealedDraft.place g.D.Sealed.SealedDraft.bytes (g.D.PoolDisks.worlds c.write_start.new.pool.disks) (entry_at c.write_start.new.pool.map) w.id n piece c.op_fill-filled.result) what.1 fill) in
+    let filled = subst (λ n. FillStands g.D.Draft.Draft.place g.D.Draft.Draft.bytes g.D.Sealed.SealedDraft.place g.D.Sealed.SealedDraft.bytes (g.D.PoolDisks.worlds c.write_start.new.pool.disks) (block_books c.write_start.new.pool.map) n stamp piece c.op_fill-filled.result) what.0
+    (subst (λ n. FillStands g.D.Draft.Draft.place g.D.Draft.Draft.bytes g.D.Sealed.SealedDraft.place g.D.Sealed.SealedDraft.bytes (g.D.PoolDisks.worlds c.write_start.new.pool.disks) (block_books c.write_start.new.pool.map) w.id n piece c.op_fill-filled.result) what.1 fill) in
     let ended = c.op_end.ensures.step (with_cell state.cells id p.cell) id stamp (length piece - length piece) piece (two.stands nothing (loose standing)) filled (with_cell-here state.cells id p.cell ∙ p.says) in
     let end = ended.0 in
     let fault = fill_fault c.op_fill-filled.result in
@@ -98,7 +98,7 @@ returns-clause-step g c state standing =
     carried_learning e.to.cell knows.metas
     (goes_on standing id e.to.cell state.writers (subst (λ (k : Knowledge). Stands c.op_end.new.pool k (with_cell state.cells id e.to.cell)) knows.is (ended_stands two e _ standing.pool))
     (λ x. c.write_start.ensures.goes_on.honest.1 (c.op_end.ensures.goes_on.honest.1 x)) (λ other apart. c.op_end.ensures.others id stamp piece filled other apart ∙ c.write_start.ensures.others other apart) (λ other apart. refl) (λ other apart. refl)
-    (subst (λ o. MatchOption o (NotGrowing e.to.cell) (OpenWriter (g.D.PoolDisks.worlds c.op_end.new.pool.disks) (entry_at c.op_end.new.pool.map) id e.to.cell (state.writers id))) (sym none) (end_rests fault reply stamp piece e.to.cell leaves)))
+    (subst (λ o. MatchOption o (NotGrowing e.to.cell) (OpenWriter (g.D.PoolDisks.worlds c.op_end.new.pool.disks) (block_books c.op_end.new.pool.map) id e.to.cell (state.writers id))) (sym none) (end_rests fault reply stamp piece e.to.cell leaves)))
     (safe_then (λ (k : Knowledge). Stands c.op_end.new.pool k) knows.matching_stays (ended_safe two e ended.1 stamp (length piece - length piece) piece is_absent p.says)) (op_answer reply) (λ trust known. says_end trust (state.metas id) reply _ c.end_reply_of.ensures)
     (subst (λ cell. Step unlimited cell (write stamp piece) (op_answer reply) e.to.cell) (sym is_absent) (ends_as_write fault reply stamp piece e.to.cell (omega arith) leaves))
     (λ same. fails_write (faulty_of g.D.Draft.Draft g.D.Reader.Reader)
