@@ -39,16 +39,16 @@ abbrev pub base_len : Option Grown → ℕ
 base_len None = 0
 base_len (Some grown) = len_of_base grown.base
 
--- a block that waits counts nothing itself
-abbrev pub unless_waiting : State → ℕ → ℕ
-unless_waiting Finalised n = n
-unless_waiting Writing n = n
-unless_waiting Unsure n = n
-unless_waiting Waiting n = 0
+-- what an entry counts, by its state, length and the length of the base beside it: a replica its length, a writer what it
+-- reserved and its base, a block in doubt what it counted before, and one that waits nothing itself
+abbrev pub counted : State → (len base : ℕ) → ℕ
+counted Finalised len base = len
+counted Writing len base = len + base
+counted Unsure len base = len + base
+counted Waiting len base = 0
 
--- an entry counts its length (of a writer, what it reserved) and its base's
 abbrev pub counted_len : Row → ℕ
-counted_len row = unless_waiting row.entry.state (row.entry.len + base_len row.grown)
+counted_len row = counted row.entry.state row.entry.len (base_len row.grown)
 
 -- a leftover counts its length if it is a block file
 abbrev pub len_of_file : BlockFile → ℕ → ℕ

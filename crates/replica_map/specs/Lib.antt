@@ -3,3 +3,4 @@ pub mod Counting
 pub mod Books
 pub mod Kept
 pub mod Leftovers
+pub mod Uses

@@ -14,7 +14,7 @@ mod use_table;
 pub use entry::{Base, Entry, Grown, State};
 pub use keyed::Keyed;
 pub use leftover::Leftover;
-pub use replica_map::ReplicaMap;
+pub use replica_map::{ReplicaMap, sums_are_unique};
 pub use row::Row;
 pub use sorted::Sorted;
 pub use ticket::Ticket;

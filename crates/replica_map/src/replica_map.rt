@@ -1,5 +1,5 @@
 //! The books of a pool.
-ghost use Rattle.std.specs.Prelude.{◌≡◌, ℕ, if◌then◌else◌, ◌+◌, ◌<◌, ◌≤◌, ◌^◌, ◌∷◌, ◌++◌, [], length, slice_get, remove, position, sum_by, slice_index, None, Some, OnOk, OnErr, IsOk, IfOk, IsSome, IfSome, IsSomeAnd, MatchOption, option_map};
+ghost use Rattle.std.specs.Prelude.{◌≡◌, ℕ, ◌+◌, ◌<◌, ◌≤◌, ◌^◌, ◌∷◌, ◌++◌, [], length, slice_get, remove, position, sum_by, slice_index, None, Some, OnOk, OnErr, IsOk, IfOk, IsSome, IfSome, IsSomeAnd, MatchOption, option_map};
 ghost use Rattle.replica_map.specs.Rising.{Rises};
 ghost use Rattle.replica_map.specs.Counting.{writes, leftover_use};
 ghost use Rattle.replica_map.specs.Kept.{leftover_excess};
@@ -8,6 +8,7 @@ ghost use Rattle.volume_layout.specs.Paths.{IsBlockId};
 ghost use Rattle.replica_map.specs.Leftovers.{is_leftover_of};
 ghost use Rattle.replica_map.specs.declared.leftover.Leftover.{Leftover};
 ghost use Rattle.replica_map.specs.Books.{row_at, entry_at, grown_at, ticket_at, leftovers_of, used, writers, Keeps, Puts, ListsLeftover, KeepsOthers, DropsFirst, IsFirstOf, IsNext, HasNoLater, SameRows, SameLeftovers};
+ghost use Rattle.replica_map.specs.Uses.{block_use, IsSumOf, SumsAreUnique};
 
 use crate::entry::{Entry, Grown};
 use crate::leftover::Leftover;
@@ -139,12 +140,21 @@ impl ReplicaMap {
         self.tally.writing
     }
 
-    /// The counted use of a volume, in bytes: of the entries on it their lengths and those of their bases, of a writer what
-    /// it reserved, of the leftovers those of the block files, and of the tickets those that go there.
+    /// The counted use of a volume, in bytes: of the replicas on it their lengths, of the writers what they reserved and
+    /// their bases, of the blocks in doubt what they counted before, of the leftovers the lengths of the block files, and of
+    /// the tickets those that go there.
     pub fn used(&self, vol: u8) -> u128
         ensures { result ≡ used vol self.now }
     {
         self.tally.uses.get(vol)
+    }
+
+    /// What is counted on any volume is the sum of what the blocks count there.
+    pub fn uses_are_sums(&self)
+        ensures { (vol : ℕ) → IsSumOf (block_use vol self.now) (used vol self.now) }
+    {
+        let _rows_rise = self.rows.len();
+        let _tickets_rise = self.tickets.len();
     }
 
     /// Makes room for as many entries and leftovers beside those that are there. It takes no memory where there is room. After
@@ -462,6 +472,11 @@ impl ReplicaMap {
         self.rows.remove(key);
     }
 }
+
+/// A function of numbers has at most one sum.
+pub fn sums_are_unique()
+    ensures { SumsAreUnique }
+{}
 
 /// The index of the first leftover of a block, on a volume where one is given.
 fn position_of(leftovers: &[Leftover], id: BlockId, vol: Option<u8>) -> Option<usize>
