@@ -9,7 +9,7 @@ use Rattle.volume_layout.specs.Paths.{IsBlockId}
 use Rattle.map_model.specs.Cells.{Replica, Cell, Cells, absent, final, growing, unsure, waiting}
 use Rattle.map_model.specs.Allows.{Allows}
 use Rattle.map_model.specs.Sound.{Knowledge, Fits}
-use Rattle.map_model.specs.Steps.{Step, delete, failed, done, is_writing, delete_refusal}
+use Rattle.map_model.specs.Steps.{Room, Step, delete, failed, done, is_writing, delete_refusal}
 use Rattle.volume_layout.specs.declared.block_file.BlockFile.{BlockFile}
 use Rattle.volume_layout.specs.declared.block_file.BlockFile.TheVariants.{Block, Meta, WritingBlock, WritingMeta}
 use Rattle.map_model.specs.Slots.{View}
@@ -20,7 +20,8 @@ use Rattle.replica_map.specs.declared.entry.Entry.{Entry as MapEntry}
 use Rattle.replica_map.specs.declared.entry.Grown.{Grown}
 use Rattle.replica_map.specs.declared.entry.State.{State}
 use Rattle.replica_map.specs.declared.entry.State.TheVariants.{Finalised, Writing, Unsure, Waiting}
-use Rattle.pool_state.specs.Answers.{unlimited, delete_fault, IsQuiet, TakesStep}
+use Rattle.pool_state.specs.Answers.{delete_fault, IsQuiet, TakesStep}
+use Rattle.pool_state.proofs.AnyRoom.{any_room}
 use Rattle.pool_state.specs.Tenures.{state_refusal}
 use Rattle.pool_state.specs.declared.deleting.DeleteFault.{DeleteFault}
 use Rattle.pool_state.specs.Books.{entry_state, book_entry}
@@ -49,7 +50,7 @@ waiting_cell waiting e is agrees = refl
 -- ---- what is refused
 
 -- an open writer refuses the deletion
-pub writing_step : (cell : Cell) (grown : Option Grown) (e : MapEntry) → e.state ≡ Writing → Agrees (Some (book_entry grown e)) cell → Step unlimited cell delete is_writing cell
+pub writing_step : (cell : Cell) (grown : Option Grown) (e : MapEntry) → e.state ≡ Writing → Agrees (Some (book_entry grown e)) cell → Step any_room cell delete is_writing cell
 writing_step absent grown e is agrees = absurd agrees
 writing_step (final replica) grown e is agrees = let bad : entry_state grown Writing ≡ is_final = sym (ap (entry_state grown) is) ∙ agrees.0 in absurd cc
 writing_step (growing stamp base bytes left) grown e is agrees = (refl, refl)
@@ -64,15 +65,15 @@ written_free grown Unsure base stamp is over = over
 written_free grown Waiting base stamp is over = over
 
 refused_by : (cell : Cell) (grown : Option Grown) (e : MapEntry) (state : State) → e.state ≡ state → Agrees (Some (book_entry grown e)) cell →
-    IfSome (state_refusal state) (λ fault. Step unlimited cell delete (delete_fault fault) cell)
+    IfSome (state_refusal state) (λ fault. Step any_room cell delete (delete_fault fault) cell)
 refused_by cell grown e Finalised is agrees = tt
 refused_by cell grown e Writing is agrees = writing_step cell grown e is agrees
 refused_by cell grown e Unsure is agrees = tt
 refused_by cell grown e Waiting is agrees = tt
 
 pub refused_cell : (cell : Cell) (grown : Option Grown) (e : MapEntry) (result : Option DeleteFault) → result ≡ state_refusal e.state → Agrees (Some (book_entry grown e)) cell →
-    IfSome result (λ fault. Step unlimited cell delete (delete_fault fault) cell)
-refused_cell cell grown e result is agrees = subst (λ o. IfSome o (λ fault. Step unlimited cell delete (delete_fault fault) cell)) (sym is) (refused_by cell grown e e.state refl agrees)
+    IfSome result (λ fault. Step any_room cell delete (delete_fault fault) cell)
+refused_cell cell grown e result is agrees = subst (λ o. IfSome o (λ fault. Step any_room cell delete (delete_fault fault) cell)) (sym is) (refused_by cell grown e e.state refl agrees)
 
 pub free_cell : (cell : Cell) (grown : Option Grown) (e : MapEntry) → state_refusal e.state ≡ None → Agrees (Some (book_entry grown e)) cell → delete_refusal cell ≡ None
 free_cell absent grown e is agrees = absurd agrees
@@ -190,8 +191,8 @@ module _ {told : Option (List World)} {volumes : ℕ} {books : ℕ → BlockBook
         (subst (BlockStands (Fits known id) before (books_of (Some e) [] None)) waits_here (own_here before own))))
 
 -- a quiet tenure that failed to delete a block
-pub quiet_failure : {Says : Cell → Type 0} {cells : Cells} {Stood StandsFor : Knowledge → Cells → Type 0} {past since : ℕ → Files → Type 0} (id : ℕ) → IsQuiet cells Stood StandsFor past since × AddsOnly past since OneWhole →
-    Step unlimited (cells id) delete failed (cells id) → Says (cells id) → TakesStep id delete failed Says cells Stood StandsFor past since × AddsOnly past since OneWhole
+pub quiet_failure : {room : Room} {Says : Cell → Type 0} {cells : Cells} {Stood StandsFor : Knowledge → Cells → Type 0} {past since : ℕ → Files → Type 0} (id : ℕ) → IsQuiet cells Stood StandsFor past since × AddsOnly past since OneWhole →
+    Step any_room (cells id) delete failed (cells id) → Says (cells id) → TakesStep room id delete failed Says cells Stood StandsFor past since × AddsOnly past since OneWhole
 quiet_failure {cells = cells} {StandsFor = StandsFor} id (quiet, whole) step says = (
   record {
     to = record { cell = cells id; step = step; says = says; stands = λ known old. subst (StandsFor known) (sym (with_cell-same cells id)) (quiet.stands known old) };
@@ -202,9 +203,9 @@ quiet_failure {cells = cells} {StandsFor = StandsFor} id (quiet, whole) step say
 )
 
 -- a quiet tenure, and then the books forget the block
-pub quiet_deletion : {Says : Cell → Type 0} {cells : Cells} {Stood Between StandsFor : Knowledge → Cells → Type 0} {past since : ℕ → Files → Type 0} (id : ℕ) → IsQuiet cells Stood Between past since × AddsOnly past since OneWhole →
-    Step unlimited (cells id) delete done absent → Says absent → ((known : Knowledge) → Between known cells → StandsFor known (with_cell cells id absent)) →
-    TakesStep id delete done Says cells Stood StandsFor past since × AddsOnly past since OneWhole
+pub quiet_deletion : {room : Room} {Says : Cell → Type 0} {cells : Cells} {Stood Between StandsFor : Knowledge → Cells → Type 0} {past since : ℕ → Files → Type 0} (id : ℕ) → IsQuiet cells Stood Between past since × AddsOnly past since OneWhole →
+    Step any_room (cells id) delete done absent → Says absent → ((known : Knowledge) → Between known cells → StandsFor known (with_cell cells id absent)) →
+    TakesStep room id delete done Says cells Stood StandsFor past since × AddsOnly past since OneWhole
 quiet_deletion id (quiet, whole) step says forgets = (
   record {
     to = record { cell = absent; step = step; says = says; stands = λ known old. forgets known (quiet.stands known old) };

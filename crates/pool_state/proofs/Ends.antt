@@ -20,7 +20,7 @@ use Rattle.map_model.specs.Tenures.{books_of, Fails, Writer, writer_entry, writt
 use Rattle.map_model.proofs.FinishFresh.{finish_fresh_stands}
 use Rattle.map_model.proofs.Drop.{drop_fresh_stands}
 use Rattle.map_model.proofs.Bridge.{view_drafted}
-use Rattle.pool_state.specs.Answers.{unlimited}
+use Rattle.pool_state.proofs.AnyRoom.{any_room}
 use Rattle.pool_state.specs.Stands.{IsVolume, PoolStands}
 use Rattle.pair_draft.specs.Writers.{Pair}
 use Rattle.pool_state.specs.Writers.{writer_at, PairStands, meta_of}
@@ -81,11 +81,11 @@ no_room_wanted : (left : ℕ) → nat_lt left 0 ≡ false
 no_room_wanted left = grind (arith, nat_tests)
 
 pub finish_step : (stamp left : ℕ) (bytes : List ℕ) (reply : Reply) (after : Cell) → CarriedOut (growing stamp None bytes left) finish reply after →
-    Step unlimited (growing stamp None bytes left) finish reply after
+    Step any_room (growing stamp None bytes left) finish reply after
 finish_step stamp left bytes reply after out = rw (no_room_wanted left) out
 
 pub drop_step : (stamp left : ℕ) (bytes : List ℕ) (reply : Reply) (after : Cell) → CarriedOut (growing stamp None bytes left) drop_write reply after →
-    Step unlimited (growing stamp None bytes left) drop_write reply after
+    Step any_room (growing stamp None bytes left) drop_write reply after
 drop_step stamp left bytes reply after out = rw (no_room_wanted left) out
 
 -- what a block in doubt allows is allowed by the writer's cell, or by that of the new replica

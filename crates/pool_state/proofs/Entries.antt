@@ -1,9 +1,10 @@
 -- What the entry of a block says of its books.
 use Rattle.std.proofs.Common.{◌≡◌, ℕ, ◌==◌, if◌then◌else◌, List, [], Option, None, Some, refl, sym, ◌∙◌, ap, subst}
+use Rattle.std.proofs.lemmas.Bool.{eq-eqb}
 use Rattle.std.proofs.lemmas.Option.{same_Some}
-use Rattle.std.specs.Prelude.{option_map}
+use Rattle.std.specs.Prelude.{option_map, IfSome}
 use Rattle.map_model.specs.Cells.{Cell}
-use Rattle.map_model.specs.Stands.{EntryState, is_written, in_doubt, Agrees, Entry as BookEntry, Leftover as BookLeftover, BlockBooks}
+use Rattle.map_model.specs.Stands.{EntryState, is_written, in_doubt, Agrees, Leftover as BookLeftover, BlockBooks}
 use Rattle.map_model.specs.Tenures.{books_of, Writer, writer_entry, written_books}
 use Rattle.replica_map.specs.declared.entry.Entry.{Entry}
 use Rattle.replica_map.specs.declared.entry.Grown.{Grown}
@@ -12,12 +13,17 @@ use Rattle.replica_map.specs.declared.entry.State.TheVariants.{Finalised, Writin
 use Rattle.replica_map.specs.Books.{Books, entry_at, grown_at}
 use Rattle.pool_state.specs.Answers.{IsWritingState, IsWritten}
 use Rattle.pool_state.specs.Books.{entry_state, book_entry, block_number, meta_number, left_at, block_books, BooksBecome}
+use Rattle.pool_state.specs.BookSteps.{BooksHalfDeleted}
 use Rattle.pool_state.specs.Stands.{IsVolume, IsNoWait, IsNotWaiting, BooksFit}
 use Rattle.pool_state.specs.Writers.{writer_at}
 
 -- the writer of an entry
 abbrev pub writer_in : Option Grown → Entry → Writer
 writer_in grown e = writer_at e.stamp e.vol e.len e.rev (block_number grown) (meta_number grown)
+
+-- what the books say of a block that has an entry
+pub with_entry : (map : Books) (id : ℕ) (e : Entry) → entry_at map id ≡ Some e → block_books map id ≡ books_of (Some (book_entry (grown_at map id) e)) (left_at map id) None
+with_entry map id e has = ap (λ (o : Option Entry). books_of (option_map (book_entry (grown_at map id)) o) (left_at map id) None) has
 
 module _ (map : Books) (id : ℕ) {volumes : ℕ} {cell : Cell} (fit : BooksFit volumes (block_books map id) cell) where
   -- of a block without an entry the books say nothing
@@ -32,7 +38,7 @@ module _ (map : Books) (id : ℕ) {volumes : ℕ} {cell : Cell} (fit : BooksFit 
   module _ (e : Entry) (has : entry_at map id ≡ Some e) where
     -- of one with an entry, that entry
     pub said_by : block_books map id ≡ books_of (Some (book_entry (grown_at map id) e)) (left_at map id) None
-    said_by = ap (λ (o : Option Entry). books_of (option_map (book_entry (grown_at map id)) o) (left_at map id) None) has
+    said_by = with_entry map id e has
 
     pub fit_by : BooksFit volumes (books_of (Some (book_entry (grown_at map id) e)) (left_at map id) None) cell
     fit_by = subst (λ (b : BlockBooks). BooksFit volumes b cell) said_by fit
@@ -119,3 +125,19 @@ writer_left map id w is = ap (λ (b : BlockBooks). b.leftovers) is
 pub settled_as : (id : ℕ) (old new : ℕ → BlockBooks) (now then_now : BlockBooks) → ((other : ℕ) → new other ≡ (if other == id then now else old other)) → now ≡ then_now →
     (other : ℕ) → new other ≡ (if other == id then then_now else old other)
 settled_as id old new now then_now becomes is other = becomes other ∙ ap (λ (b : BlockBooks). if other == id then b else old other) is
+
+-- what the books say of a block becomes this
+pub become : (map new : Books) {id n : ℕ} (f : List BookLeftover → BlockBooks) → n ≡ id → BooksBecome n (f (left_at map n)) map new → block_books new id ≡ f (left_at map id)
+become map new {id} {n} f own becomes =
+    subst (λ k. BooksBecome k (f (left_at map k)) map new) own becomes id ∙ rw (eq-eqb id id refl) refl
+
+-- and so it does where nothing of the block is left
+pub become_alone : (map new : Books) {id n : ℕ} (f : List BookLeftover → BlockBooks) → n ≡ id → BooksBecome n (f (left_at map n)) map new → left_at map id ≡ [] → block_books new id ≡ f []
+become_alone map new f own becomes none = become map new f own becomes ∙ ap f none
+
+-- a deletion that failed, by the entry of its block
+pub half_deleted_by : (map : Books) (id : ℕ) (e : Entry) (state : EntryState) (new : BlockBooks) → entry_at map id ≡ Some e → entry_state (grown_at map id) e.state ≡ state → BooksHalfDeleted state (block_books map id) new →
+    IfSome (block_books map id).entry (λ entry. BooksHalfDeleted entry.state (block_books map id) new)
+half_deleted_by map id e state new has is half =
+    subst (λ (o : Option Entry). IfSome (option_map (book_entry (grown_at map id)) o) (λ entry. BooksHalfDeleted entry.state (block_books map id) new)) (sym has)
+    (subst (λ s. BooksHalfDeleted s (block_books map id) new) (sym is) half)

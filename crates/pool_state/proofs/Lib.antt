@@ -14,3 +14,5 @@ pub mod Pushing
 pub mod Belonging
 pub mod EmptyDisks
 pub mod Deletions
+pub mod AnyRoom
+pub mod Counted

@@ -6,11 +6,12 @@ use Rattle.std.proofs.lemmas.Bool.Decides.{nat_tests}
 use Rattle.disk_model.specs.Worlds.{World}
 use Rattle.map_model.specs.Cells.{Replica, Cells, growing}
 use Rattle.map_model.specs.Sound.{Fits}
-use Rattle.map_model.specs.Steps.{Step, push, done}
+use Rattle.map_model.specs.Steps.{Room, Step, push, done}
 use Rattle.map_model.specs.Slots.{View}
 use Rattle.map_model.specs.Stands.{Agrees, BlockBooks, BlockStands}
 use Rattle.map_model.specs.Tenures.{Writer as TenureWriter, written_books}
-use Rattle.pool_state.specs.Answers.{unlimited, StepsTo}
+use Rattle.pool_state.specs.Answers.{StepsTo}
+use Rattle.pool_state.proofs.AnyRoom.{any_room}
 use Rattle.pool_state.specs.Stands.{IsVolume, PoolStands}
 use Rattle.pair_draft.specs.Writers.{Writer}
 use Rattle.pool_state.specs.Writers.{WriterStands, writer_at}
@@ -25,7 +26,7 @@ at_most : (left n : ℕ) → n ≤ left → nat_le n left ≡ true
 at_most left n within = grind (arith, nat_tests)
 
 push_step : (stamp left : ℕ) (bytes piece : List ℕ) → length piece ≤ left →
-    Step unlimited (growing stamp None bytes left) (push piece) done (growing stamp None (bytes ++ piece) (left - length piece))
+    Step any_room (growing stamp None bytes left) (push piece) done (growing stamp None (bytes ++ piece) (left - length piece))
 push_step stamp left bytes piece within = rw (fits left (length piece) within) (refl, rw (at_most left (length piece) within) refl)
 
 -- a growing block's files don't depend on how far it has grown
@@ -44,10 +45,10 @@ grown M view books stamp left left' bytes bytes' agrees own = record {
   ticket = own.ticket;
 }
 
-pub pushes : (told : Option (List World)) (volumes : ℕ) (books : ℕ → BlockBooks) (cells : Cells) (w : Writer) (bytes piece : List ℕ) (stamp' len' reserved' : ℕ) →
+pub pushes : {room : Room} (told : Option (List World)) (volumes : ℕ) (books : ℕ → BlockBooks) (cells : Cells) (w : Writer) (bytes piece : List ℕ) (stamp' len' reserved' : ℕ) →
     WriterStands told books w bytes → cells w.id ≡ growing w.stamp None bytes (w.reserved - w.len) →
     length piece ≤ w.reserved - w.len → stamp' ≡ w.stamp → len' ≡ w.len + length piece → reserved' ≡ w.reserved →
-    StepsTo w.id (push piece) done (λ cell. cell ≡ growing stamp' None (bytes ++ piece) (reserved' - len')) cells (PoolStands told volumes books) (PoolStands told volumes books)
+    StepsTo room w.id (push piece) done (λ cell. cell ≡ growing stamp' None (bytes ++ piece) (reserved' - len')) cells (PoolStands told volumes books) (PoolStands told volumes books)
 pushes told volumes books cells w bytes piece stamp' len' reserved' belongs grows within same_stamp longer same_reserved =
     let rest : (w.reserved - w.len) - length piece ≡ reserved' - len' = omega (arith, within, longer, same_reserved) in
     let after = growing w.stamp None (bytes ++ piece) ((w.reserved - w.len) - length piece) in
@@ -56,7 +57,7 @@ pushes told volumes books cells w bytes piece stamp' len' reserved' belongs grow
     (refl, omega (arith, length-append bytes piece, within, belongs.pushed.len, belongs.pushed.within), tt) in
     record {
       cell = after;
-      step = subst (λ c. Step unlimited c (push piece) done after) (sym grows)
+      step = subst (λ c. Step any_room c (push piece) done after) (sym grows)
           (push_step w.stamp (w.reserved - w.len) bytes piece within);
       says = ap (λ n. growing w.stamp None (bytes ++ piece) n) rest ∙ ap (λ s. growing s None (bytes ++ piece) (reserved' - len')) (sym same_stamp);
       stands = λ known stands. pool_stands stands w.id belongs.valid.0 {step = Stays} (reaches_same w.id told told refl) refl (record {

@@ -13,12 +13,12 @@ use Rattle.map_model.specs.Allows.{Allows, AllowsFiles, AllowsImage}
 use Rattle.map_model.specs.Sound.{Knowledge, nothing, matching, Fits, HasSoundCopies, IsSoundBy}
 use Rattle.map_model.specs.Slots.{View, files_in, view_of}
 use Rattle.map_model.specs.Stands.{BlockBooks, BlockStands}
-use Rattle.map_model.specs.Steps.{Command, Reply, Step}
+use Rattle.map_model.specs.Steps.{Command, Reply, Room, Step}
 use Rattle.map_model.proofs.Bridge.{image_files}
 use Rattle.map_model.proofs.LawProofs.{block_allows}
 use Rattle.map_model.proofs.Soundness.{block_is_sound}
 use Rattle.pool_state.specs.Reaching.{ComesFrom, Reaches}
-use Rattle.pool_state.specs.Answers.{unlimited, AllowedByEither, TakesStep, IsQuiet}
+use Rattle.pool_state.specs.Answers.{AllowedByEither, TakesStep, IsQuiet}
 use Rattle.pool_state.specs.Stands.{with_cell, PoolStands}
 use Rattle.pool_state.proofs.Changing.{Leads}
 use Rattle.pool_state.proofs.Whole.{IsWholeIn, block_whole}
@@ -165,11 +165,11 @@ module _ {told : Option (List World)} {volumes : ℕ} {books : ℕ → BlockBook
           }
 
 -- A step of the cells, from what holds whatever is known of the meta files, and what more is known then.
-pub takes_learning : (learn : Knowledge → Knowledge) → learn matching ≡ matching → {id : ℕ} {command : Command} {answer : Reply} {Says : Cell → Type 0} {cells : Cells}
+pub takes_learning : (learn : Knowledge → Knowledge) → learn matching ≡ matching → {room : Room} {id : ℕ} {command : Command} {answer : Reply} {Says : Cell → Type 0} {cells : Cells}
     {Stood StandsFor : Knowledge → Cells → Type 0} {past since : ℕ → Files → Type 0}
-    (cell : Cell) → Step unlimited (cells id) command answer cell → Says cell →
+    (cell : Cell) → Step room (cells id) command answer cell → Says cell →
     ((known : Knowledge) → Stood known cells → StandsFor known (with_cell cells id cell) × AddsOnly past since (Shown (learn known) cells (with_cell cells id cell))) →
-    Stood nothing cells → TakesStep id command answer Says cells Stood StandsFor past since × AddsOnly past since OneWhole
+    Stood nothing cells → TakesStep room id command answer Says cells Stood StandsFor past since × AddsOnly past since OneWhole
 takes_learning learn same cell step says run stood = (
   record {
     to = record { cell = cell; step = step; says = says; stands = λ known old. (run known old).0 };
@@ -180,10 +180,10 @@ takes_learning learn same cell step says run stood = (
 )
 
 -- a step after which no more is known
-pub takes : {id : ℕ} {command : Command} {answer : Reply} {Says : Cell → Type 0} {cells : Cells} {Stood StandsFor : Knowledge → Cells → Type 0} {past since : ℕ → Files → Type 0}
-    (cell : Cell) → Step unlimited (cells id) command answer cell → Says cell →
+pub takes : {room : Room} {id : ℕ} {command : Command} {answer : Reply} {Says : Cell → Type 0} {cells : Cells} {Stood StandsFor : Knowledge → Cells → Type 0} {past since : ℕ → Files → Type 0}
+    (cell : Cell) → Step room (cells id) command answer cell → Says cell →
     ((known : Knowledge) → Stood known cells → StandsFor known (with_cell cells id cell) × AddsOnly past since (Shown known cells (with_cell cells id cell))) →
-    Stood nothing cells → TakesStep id command answer Says cells Stood StandsFor past since × AddsOnly past since OneWhole
+    Stood nothing cells → TakesStep room id command answer Says cells Stood StandsFor past since × AddsOnly past since OneWhole
 takes = takes_learning (λ known. known) refl
 
 -- an image that the cells allow, that matches, and each of whose copies is whole

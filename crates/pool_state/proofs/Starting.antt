@@ -1,13 +1,12 @@
 -- What the start of a fresh write leaves, at each of its exits.
-use Rattle.std.proofs.Common.{◌≡◌, ◌<◌, ◌^◌, inl, inr, ℕ, List, [], Option, None, Some, refl, sym, ◌∙◌, ap, subst, arith, IsFalse, IsTrue}
+use Rattle.std.proofs.Common.{◌≡◌, inl, inr, ℕ, List, [], Option, None, Some, IfSome, option_map, refl, sym, ◌∙◌, ap, subst, arith, IsFalse, IsTrue}
 use Rattle.std.proofs.lemmas.Bool.{cases_Bool}
-use Rattle.std.proofs.lemmas.Bool.Decides.{nat_tests}
 use Rattle.disk_model.specs.Worlds.{World}
 use Rattle.disk_model.specs.Told.{NoDraftAt}
 use Rattle.volume_layout.specs.Paths.{IsBlockId, IsStamp}
 use Rattle.map_model.specs.Cells.{Cell, Cells, absent, final, growing, unsure, waiting}
 use Rattle.map_model.specs.Sound.{Knowledge, Fits}
-use Rattle.map_model.specs.Steps.{Step, CarriedOut, start_write, write_refusal, Reply, memory}
+use Rattle.map_model.specs.Steps.{Room, Step, CarriedOut, start_write, write_refusal, Reply, memory}
 use Rattle.volume_layout.specs.declared.block_file.BlockFile.{BlockFile}
 use Rattle.volume_layout.specs.declared.block_file.BlockFile.TheVariants.{WritingBlock, WritingMeta}
 use Rattle.volume_layout.specs.BlockFiles.{is_file, path_of}
@@ -22,9 +21,10 @@ use Rattle.replica_map.specs.declared.entry.Grown.{Grown}
 use Rattle.replica_map.specs.declared.entry.State.{State}
 use Rattle.replica_map.specs.declared.entry.State.TheVariants.{Finalised, Writing, Unsure, Waiting}
 use Rattle.pool_state.specs.declared.start_fault.StartFault.{StartFault}
-use Rattle.pool_state.specs.declared.start_fault.StartFault.TheVariants.{Exists, Writing as RefusedWriting, Waiting as RefusedWaiting, Unsure as RefusedUnsure, Failed, Memory}
-use Rattle.pool_state.specs.Answers.{unlimited, start_fault, write_fault}
+use Rattle.pool_state.specs.declared.start_fault.StartFault.TheVariants.{Exists, None as NoBlock, Writing as RefusedWriting, Waiting as RefusedWaiting, Unsure as RefusedUnsure, Full, TooLong, Failed, Memory}
+use Rattle.pool_state.specs.Answers.{start_fault, write_fault}
 use Rattle.pool_state.specs.Books.{entry_state, book_entry}
+use Rattle.pool_state.specs.BookSteps.{BooksNotStarted}
 use Rattle.pool_state.specs.Stands.{IsVolume, PoolStands}
 use Rattle.pool_state.specs.Reaching.{Reaches, ComesFrom, Then}
 use Rattle.pool_state.proofs.Changing.{Leads}
@@ -63,13 +63,13 @@ waiting_refused grown Unsure same = absurd cc
 waiting_refused grown Waiting same = refl
 
 -- the answer to the start of a block that has an entry is the cell's refusal
-pub refused_step : (cell : Cell) (grown : Option Grown) (entry : Entry) (stamp need : ℕ) → Agrees (Some (book_entry grown entry)) cell →
-    Step unlimited cell (start_write stamp need) (start_fault (write_fault entry.state)) cell
-refused_step absent grown entry stamp need agrees = absurd agrees
-refused_step (final replica) grown entry stamp need agrees = (ap start_fault (final_refused grown entry.state agrees.0), refl)
-refused_step (growing now base bytes left) grown entry stamp need agrees = (ap start_fault (growing_refused grown entry.state now base agrees.2), refl)
-refused_step (unsure x y cut) grown entry stamp need agrees = (ap start_fault (unsure_refused grown entry.state agrees), refl)
-refused_step waiting grown entry stamp need agrees = (ap start_fault (waiting_refused grown entry.state agrees), refl)
+pub refused_step : (room : Room) (cell : Cell) (grown : Option Grown) (entry : Entry) (stamp need : ℕ) → Agrees (Some (book_entry grown entry)) cell →
+    Step room cell (start_write stamp need) (start_fault (write_fault entry.state)) cell
+refused_step room absent grown entry stamp need agrees = absurd agrees
+refused_step room (final replica) grown entry stamp need agrees = (ap start_fault (final_refused grown entry.state agrees.0), refl)
+refused_step room (growing now base bytes left) grown entry stamp need agrees = (ap start_fault (growing_refused grown entry.state now base agrees.2), refl)
+refused_step room (unsure x y cut) grown entry stamp need agrees = (ap start_fault (unsure_refused grown entry.state agrees), refl)
+refused_step room waiting grown entry stamp need agrees = (ap start_fault (waiting_refused grown entry.state agrees), refl)
 
 -- which is neither a failure nor want of memory
 pub no_failure : (state : State) → (write_fault state ≡ Failed → ⊥) × (write_fault state ≡ Memory → ⊥)
@@ -81,13 +81,32 @@ no_failure Waiting = (λ same. cc, λ same. cc)
 pub refused_so : (state : State) (fault : StartFault) → fault ≡ write_fault state → (fault ≡ Failed → ⊥) × (fault ≡ Memory → ⊥)
 refused_so state fault is = (λ e. (no_failure state).0 (sym is ∙ e), λ e. (no_failure state).1 (sym is ∙ e))
 
--- no length is refused
-no_refusal : (need : ℕ) → need < 2 ^ 64 → write_refusal unlimited absent need ≡ None
-no_refusal need fits = grind (arith, nat_tests)
+-- what the books say stays where a start is refused
+pub refused_books : (fault : StartFault) (stamp need : ℕ) (books : BlockBooks) → (fault ≡ Failed → ⊥) × (fault ≡ Memory → ⊥) → BooksNotStarted fault stamp need books books
+refused_books Exists stamp need books so = refl
+refused_books NoBlock stamp need books so = refl
+refused_books RefusedWriting stamp need books so = refl
+refused_books RefusedWaiting stamp need books so = refl
+refused_books RefusedUnsure stamp need books so = refl
+refused_books (Full n free) stamp need books so = refl
+refused_books (TooLong limit) stamp need books so = refl
+refused_books Failed stamp need books so = absurd (so.0 refl)
+refused_books Memory stamp need books so = absurd (so.1 refl)
 
-absent_step : (need stamp : ℕ) (reply : Reply) (after : Cell) → need < 2 ^ 64 → CarriedOut absent (start_write stamp need) reply after →
-    Step unlimited absent (start_write stamp need) reply after
-absent_step need stamp reply after fits out = rw (no_refusal need fits) out
+-- a start that finds room
+absent_step : (room : Room) (need stamp : ℕ) (reply : Reply) (after : Cell) → write_refusal room absent need ≡ None → CarriedOut absent (start_write stamp need) reply after →
+    Step room absent (start_write stamp need) reply after
+absent_step room need stamp reply after fits out = rw fits out
+
+-- and one that finds none
+pub no_room_step : (room : Room) (need stamp : ℕ) (cell : Cell) (refused : Option StartFault) → option_map start_fault refused ≡ write_refusal room absent need → cell ≡ absent →
+    IfSome refused (λ fault. Step room cell (start_write stamp need) (start_fault fault) cell)
+no_room_step room need stamp cell None is same = tt
+no_room_step room need stamp cell (Some fault) is same =
+    subst (λ c. Step room c (start_write stamp need) (start_fault fault) c) (sym same) (rw (sym is) (refl, refl))
+
+pub fits_by : (room : Room) (need : ℕ) (refused : Option StartFault) → option_map start_fault refused ≡ write_refusal room absent need → refused ≡ None → write_refusal room absent need ≡ None
+fits_by room need refused is none = sym is ∙ ap (option_map start_fault) none
 
 module _ {told : Option (List World)} {volumes : ℕ} {books : ℕ → BlockBooks} {cells : Cells} {known : Knowledge} (stands : PoolStands told volumes books known cells)
     (id : ℕ) (valid : IsBlockId id) (none : books id ≡ books_of None [] None) where
@@ -122,13 +141,13 @@ module _ {told : Option (List World)} {volumes : ℕ} {books : ℕ → BlockBook
       view_free world id vol (WritingMeta stamp) is (subst (λ (v : View). IsFalse (is_standing (v vol (WritingMeta stamp)))) (sym from.stepped) empty)
 
   -- a start that is not refused
-  pub step_of : (stamp need : ℕ) (reply : Reply) (after : Cell) → need < 2 ^ 64 → CarriedOut absent (start_write stamp need) reply after →
-      Step unlimited (cells id) (start_write stamp need) reply after
-  step_of stamp need reply after fits out = subst (λ c. Step unlimited c (start_write stamp need) reply after) (sym is_absent) (absent_step need stamp reply after fits out)
+  pub step_of : (room : Room) (stamp need : ℕ) (reply : Reply) (after : Cell) → write_refusal room absent need ≡ None → CarriedOut absent (start_write stamp need) reply after →
+      Step room (cells id) (start_write stamp need) reply after
+  step_of room stamp need reply after fits out = subst (λ c. Step room c (start_write stamp need) reply after) (sym is_absent) (absent_step room need stamp reply after fits out)
 
   -- want of memory is an answer, and leaves it absent
-  pub memory_step : (stamp need : ℕ) → need < 2 ^ 64 → Step unlimited (cells id) (start_write stamp need) memory (cells id)
-  memory_step stamp need fits = subst (λ c. Step unlimited c (start_write stamp need) memory c) (sym is_absent) (absent_step need stamp memory absent fits (inl refl))
+  pub memory_step : (room : Room) (stamp need : ℕ) → write_refusal room absent need ≡ None → Step room (cells id) (start_write stamp need) memory (cells id)
+  memory_step room stamp need fits = subst (λ c. Step room c (start_write stamp need) memory c) (sym is_absent) (absent_step room need stamp memory absent fits (inl refl))
 
   module _ (w : Writer) (stamped : IsStamp w.stamp) (placed : IsVolume volumes w.vol) where
     -- a start that failed leads to a block that waits with what may stand of it

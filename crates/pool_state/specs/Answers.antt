@@ -1,24 +1,20 @@
 -- What a tenure answers, and the step that it takes.
-use Rattle.std.specs.Prelude.{ℕ, ◌^◌, ◌⊎◌, false, Option, Result, Ok, Err, IsSomeAnd}
+use Rattle.std.specs.Prelude.{ℕ, ◌⊎◌, Option, Result, Ok, Err, IsSomeAnd}
 use Rattle.disk_model.specs.Files.{Files}
 use Rattle.disk_model.specs.Moments.{AddsOnly}
 use Rattle.map_model.specs.Allows.{AllowsImage}
 use Rattle.map_model.specs.Sound.{Knowledge, matching, IsSound}
 use Rattle.map_model.specs.Cells.{Cell, Cells}
 use Rattle.map_model.specs.Steps.{Command, Room, Step}
-use Rattle.map_model.specs.Steps.{Reply, done, exists, no_block, is_writing, is_waiting, is_unsure, failed, memory}
+use Rattle.map_model.specs.Steps.{Reply, done, exists, no_block, is_writing, is_waiting, is_unsure, full, too_long, failed, memory}
 use Rattle.pool_state.specs.declared.start_fault.StartFault.{StartFault}
-use Rattle.pool_state.specs.declared.start_fault.StartFault.TheVariants.{Exists, None as NoBlock, Writing, Waiting, Unsure, Failed, Memory}
+use Rattle.pool_state.specs.declared.start_fault.StartFault.TheVariants.{Exists, None as NoBlock, Writing, Waiting, Unsure, Full, TooLong, Failed, Memory}
 use Rattle.pool_state.specs.declared.deleting.DeleteFault.{DeleteFault}
 use Rattle.pool_state.specs.declared.deleting.DeleteFault.TheVariants.{None as NotThere, Writing as IsWrittenNow, Failed as RemovalFailed}
 use Rattle.replica_map.specs.declared.entry.State.{State}
 use Rattle.replica_map.specs.declared.entry.State.TheVariants.{Finalised, Writing as InWriting, Unsure as InDoubt, Waiting as InWaiting}
 use Rattle.map_model.specs.Stands.{EntryState, is_written, Entry}
 use Rattle.pool_state.specs.Stands.{with_cell}
-
--- the room of a pool that counts none yet: every length fits
-abbrev pub unlimited : Room
-unlimited = record { limit = 2 ^ 64; free = 2 ^ 64; own_free = 2 ^ 64; is_worn = false }
 
 -- the reply that a refused or failed start is
 abbrev pub start_fault : StartFault → Reply
@@ -27,6 +23,8 @@ start_fault NoBlock = no_block
 start_fault Writing = is_writing
 start_fault Waiting = is_waiting
 start_fault Unsure = is_unsure
+start_fault (Full need free) = full need free
+start_fault (TooLong limit) = too_long limit
 start_fault Failed = failed
 start_fault Memory = memory
 
@@ -68,19 +66,19 @@ delete_reply (Err fault) = delete_fault fault
 abbrev pub AllowedByEither : Cells → Cells → Files → Type 0
 AllowedByEither before after image = AllowsImage before image ⊎ AllowsImage after image
 
--- A step of the cells: the block's cell becomes one that the command, answered so, may leave and of which more is said;
--- and what stood for the cells then stands for the new ones.
-pub record StepsTo (id : ℕ) (command : Command) (answer : Reply) (Says : Cell → Type 0) (cells : Cells) (Stood StandsFor : Knowledge → Cells → Type 0) : Type 0 where
+-- A step of the cells, with so much room: the block's cell becomes one that the command, answered so, may leave and of
+-- which more is said; and what stood for the cells then stands for the new ones.
+pub record StepsTo (room : Room) (id : ℕ) (command : Command) (answer : Reply) (Says : Cell → Type 0) (cells : Cells) (Stood StandsFor : Knowledge → Cells → Type 0) : Type 0 where
   pub cell : Cell
-  pub step : Step unlimited (cells id) command answer cell
+  pub step : Step room (cells id) command answer cell
   pub says : Says cell
   pub stands : (known : Knowledge) → Stood known cells → StandsFor known (with_cell cells id cell)
 
 -- A tenure takes a step of the cells; and every image that a crash can leave meanwhile is allowed by the cells before
 -- or after, and is sound where each meta matched.
-pub record TakesStep (id : ℕ) (command : Command) (answer : Reply) (Says : Cell → Type 0) (cells : Cells)
+pub record TakesStep (room : Room) (id : ℕ) (command : Command) (answer : Reply) (Says : Cell → Type 0) (cells : Cells)
     (Stood StandsFor : Knowledge → Cells → Type 0) (past since : ℕ → Files → Type 0) : Type 0 where
-  pub to : StepsTo id command answer Says cells Stood StandsFor
+  pub to : StepsTo room id command answer Says cells Stood StandsFor
   pub images : AddsOnly past since (AllowedByEither cells (with_cell cells id to.cell))
   pub sound_images : Stood matching cells → AddsOnly past since IsSound
 

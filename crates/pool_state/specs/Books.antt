@@ -66,11 +66,17 @@ abbrev pub BooksStay : Books → Books → Type 0
 BooksStay old new = (id : ℕ) → block_books new id ≡ block_books old id
 
 -- the files of the writer of an entry, as leftovers that are held
+abbrev pub block_held : BookEntry → BookLeftover
+block_held entry = record { stamp = entry.stamp; vol = entry.vol; file = WritingBlock; len = entry.len; held = true }
+
+abbrev pub meta_held : BookEntry → BookLeftover
+meta_held entry = record { stamp = entry.stamp; vol = entry.vol; file = WritingMeta entry.stamp; len = 0; held = true }
+
 abbrev pub held_block : Entry → BookLeftover
-held_block entry = record { stamp = entry.stamp; vol = entry.vol; file = WritingBlock; len = entry.len; held = true }
+held_block entry = block_held (book_entry None entry)
 
 abbrev pub held_meta : Entry → BookLeftover
-held_meta entry = record { stamp = entry.stamp; vol = entry.vol; file = WritingMeta entry.stamp; len = 0; held = true }
+held_meta entry = meta_held (book_entry None entry)
 
 -- the entry of a block that waits
 abbrev pub waits : Entry → Entry

@@ -1,7 +1,10 @@
 pub mod Books
+pub mod BookSteps
 pub mod Writers
 pub mod Stands
 pub mod Reaching
+pub mod Rooms
+pub mod Uses
 pub mod Answers
 pub mod Tenures
 pub mod Readers

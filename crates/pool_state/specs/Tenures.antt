@@ -24,6 +24,7 @@ use Rattle.pool_state.specs.declared.deleting.DeleteFault.TheVariants.{Writing a
 use Rattle.replica_map.specs.declared.entry.State.{State}
 use Rattle.replica_map.specs.declared.entry.State.TheVariants.{Finalised, Writing as InWriting, Unsure, Waiting}
 use Rattle.pool_state.specs.Stands.{Stands}
+use Rattle.pool_state.specs.Rooms.{room_of}
 
 -- why a block whose entry is in this state can't be deleted
 abbrev pub state_refusal : State → Option DeleteFault
@@ -40,7 +41,7 @@ module _ {D S T R : Type 0} {g : Ghosts D S T R} {d : drafts.Ghosts T S} {s : se
   -- it takes a step of the cells, and so much more is known of meta files then
   abbrev pub TakesLearning : (Knowledge → Knowledge) → (id : ℕ) → Command → Reply → (Cell → Type 0) → Cells → (old new : Pool D S T R g d s r) → Type 0
   TakesLearning learn id command answer Says cells old new =
-      TakesStep id command answer Says cells (Stands old) (λ known. Stands new (learn known)) (g.left_since old.disks) (g.left_since new.disks)
+      TakesStep (room_of old) id command answer Says cells (Stands old) (λ known. Stands new (learn known)) (g.left_since old.disks) (g.left_since new.disks)
 
   -- it takes a step of the cells
   abbrev pub Takes : (id : ℕ) → Command → Reply → (Cell → Type 0) → Cells → (old new : Pool D S T R g d s r) → Type 0

@@ -18,6 +18,7 @@ pub(crate) fn make_room(map: &mut ReplicaMap) -> Result<(), AllocError>
     ensures entries { Keeps entry_at map.old map.new }
     ensures room { HasRoom map.new }
     ensures ok { OnOk result (HasRoomForOne map.new) }
+    ensures tickets { map.new.tickets ≡ map.old.tickets }
 {
     let writers = map.writing_count();
     map.reserve(1, 2 * writers + 2)
@@ -31,6 +32,7 @@ fn add(map: &mut ReplicaMap, entry: Entry)
     ensures entry { entry_at map.new entry.id ≡ Some entry }
     ensures writing { writers map.new ≡ writers map.old + writes entry.state }
     ensures leftover_room { map.new.leftover_room ≡ map.old.leftover_room }
+    ensures tickets { map.new.tickets ≡ map.old.tickets }
 {
     match map.insert(entry) {
         Ok(()) => {}
@@ -46,6 +48,7 @@ pub(crate) fn put(map: &mut ReplicaMap, entry: Entry)
         writers map.new + writes was.state ≡ writers map.old + writes entry.state }
     ensures leftover_room { map.new.leftover_room ≡ map.old.leftover_room }
     ensures room { writes entry.state ≡ 0 → HasRoom map.old → HasRoom map.new }
+    ensures tickets { map.new.tickets ≡ map.old.tickets }
 {
     let id = entry.id;
     map.change(entry);
@@ -58,6 +61,7 @@ pub(crate) fn take_away(map: &mut ReplicaMap, entry: &Entry)
     requires room { HasRoom map.old }
     ensures books { BooksBecome entry.now.id (books_with None None (left_at map.old entry.now.id)) map.old map.new }
     ensures room { HasRoom map.new }
+    ensures tickets { map.new.tickets ≡ map.old.tickets }
 {
     map.remove(entry.id);
 }
@@ -68,6 +72,7 @@ fn hold_block(map: &mut ReplicaMap, entry: &Entry)
     ensures books { BooksBecome entry.now.id (with_leftover (held_block entry.now) (block_books map.old entry.now.id)) map.old map.new }
     ensures writing { writers map.new ≡ writers map.old }
     ensures leftover_room { map.old.leftover_room ≡ map.new.leftover_room + 1 }
+    ensures tickets { map.new.tickets ≡ map.old.tickets }
 {
     map.list_leftover(Leftover {
         id: entry.id,
@@ -85,6 +90,7 @@ fn hold_meta(map: &mut ReplicaMap, entry: &Entry)
     ensures books { BooksBecome entry.now.id (with_leftover (held_meta entry.now) (block_books map.old entry.now.id)) map.old map.new }
     ensures writing { writers map.new ≡ writers map.old }
     ensures leftover_room { map.old.leftover_room ≡ map.new.leftover_room + 1 }
+    ensures tickets { map.new.tickets ≡ map.old.tickets }
 {
     map.list_leftover(Leftover {
         id: entry.id,
@@ -103,6 +109,7 @@ pub(crate) fn add_writer(map: &mut ReplicaMap, entry: Entry, grown: Grown)
     requires room { HasRoomForOne map.old }
     ensures books { BooksBecome entry.id (books_with (Some grown) (Some entry) (left_at map.old entry.id)) map.old map.new }
     ensures room { HasRoom map.new }
+    ensures tickets { map.new.tickets ≡ map.old.tickets }
 {
     let id = entry.id;
     add(map, entry);
@@ -117,6 +124,7 @@ pub(crate) fn add_half_created(map: &mut ReplicaMap, entry: &Entry)
     ensures books { BooksBecome entry.now.id
         (with_leftover (held_block entry.now) (books_with None (Some entry.now) (left_at map.old entry.now.id))) map.old map.new }
     ensures room { HasRoom map.new }
+    ensures tickets { map.new.tickets ≡ map.old.tickets }
 {
     add(map, *entry);
     hold_block(map, entry);
@@ -130,6 +138,7 @@ pub(crate) fn add_created(map: &mut ReplicaMap, entry: &Entry)
     ensures books { BooksBecome entry.now.id (with_leftover (held_meta entry.now)
         (with_leftover (held_block entry.now) (books_with None (Some entry.now) (left_at map.old entry.now.id)))) map.old map.new }
     ensures room { HasRoom map.new }
+    ensures tickets { map.new.tickets ≡ map.old.tickets }
 {
     add(map, *entry);
     hold_block(map, entry);
@@ -144,6 +153,7 @@ pub(crate) fn give_up(map: &mut ReplicaMap, entry: &Entry)
     ensures books { BooksBecome entry.now.id (with_leftover (held_meta entry.now)
         (with_leftover (held_block entry.now) (books_with None (Some (waits entry.now)) (left_at map.old entry.now.id)))) map.old map.new }
     ensures room { HasRoom map.new }
+    ensures tickets { map.new.tickets ≡ map.old.tickets }
 {
     put(
         map,
@@ -164,6 +174,7 @@ pub(crate) fn give_up_meta(map: &mut ReplicaMap, entry: &Entry)
     ensures books { BooksBecome entry.now.id
         (with_leftover (held_meta entry.now) (books_with None (Some (waits entry.now)) (left_at map.old entry.now.id))) map.old map.new }
     ensures room { HasRoom map.new }
+    ensures tickets { map.new.tickets ≡ map.old.tickets }
 {
     put(
         map,

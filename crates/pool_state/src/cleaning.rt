@@ -1,5 +1,5 @@
 //! Removing files of a block.
-ghost use Rattle.std.specs.Prelude.{◌≡◌, ◌≢◌, ◌≤◌, ℕ, [], None, length, suc, IsOk, IsErr, OnOk};
+ghost use Rattle.std.specs.Prelude.{◌≡◌, ◌≢◌, ◌≤◌, ℕ, [], None, length, suc, drop, IsOk, IsErr, OnOk, OnErr};
 ghost use Rattle.disk_model.specs.Causes.{Rose};
 ghost use Rattle.disk_model.specs.Marks.{GoesOn};
 ghost use Rattle.volume_layout.specs.Paths.{IsBlockId};
@@ -45,9 +45,12 @@ impl<D: PoolDisks> Pool<D> {
         requires stands { StandsForSome self.old }
         ensures quiet { (cells : Cells) → Stands self.old nothing cells → Rests cells self.old self.new × KeepsWhole self.old self.new }
         ensures done { OnOk result (left_at self.new.map id ≡ []) }
+        ensures front { (count : ℕ) × (left_at self.new.map id ≡ drop count (left_at self.old.map id)) }
         ensures rows { SameRows self.old.map self.new.map }
+        ensures tickets { self.new.map.tickets ≡ self.old.map.tickets }
         ensures others { (other : ℕ) → other ≢ id → block_books self.new.map other ≡ block_books self.old.map other }
         ensures goes_on { GoesOn D.PoolDisks self.old.disks self.new.disks }
+        ensures shares { self.new.shares ≡ self.old.shares }
         ensures failed { IsErr result → Rose (D.faults self.old.disks) (D.faults self.new.disks) }
     {
         for _ in 0..self.map.leftover_count() {
@@ -66,9 +69,13 @@ impl<D: PoolDisks> Pool<D> {
         requires stands { StandsForSome self.old }
         ensures quiet { (cells : Cells) → Stands self.old nothing cells → Rests cells self.old self.new × KeepsWhole self.old self.new }
         ensures fewer { OnOk result (suc (length self.new.map.leftovers) ≡ length self.old.map.leftovers) }
+        ensures front { OnOk result (left_at self.new.map id ≡ drop 1 (left_at self.old.map id)) }
+        ensures kept { OnErr result (self.new.map ≡ self.old.map) }
         ensures rows { SameRows self.old.map self.new.map }
+        ensures tickets { self.new.map.tickets ≡ self.old.map.tickets }
         ensures others { (other : ℕ) → other ≢ id → block_books self.new.map other ≡ block_books self.old.map other }
         ensures goes_on { GoesOn D.PoolDisks self.old.disks self.new.disks }
+        ensures shares { self.new.shares ≡ self.old.shares }
         ensures failed { IsErr result → Rose (D.faults self.old.disks) (D.faults self.new.disks) }
     {
         let Some(leftover) = self.map.leftover_at(at) else {

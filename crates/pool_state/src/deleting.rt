@@ -5,12 +5,14 @@ ghost use Rattle.disk_model.specs.Marks.{GoesOn};
 ghost use Rattle.map_model.specs.Cells.{Cells};
 ghost use Rattle.map_model.specs.Sound.{nothing};
 ghost use Rattle.map_model.specs.Steps.{Step, delete, delete_refusal};
-ghost use Rattle.pool_state.specs.Answers.{unlimited, delete_fault};
+ghost use Rattle.pool_state.specs.Answers.{delete_fault};
+ghost use Rattle.pool_state.specs.Rooms.{room_of};
 ghost use Rattle.pool_state.specs.Tenures.{Deletes, state_refusal, KeepsWhole};
 ghost use Rattle.volume_layout.specs.Paths.{IsBlockId};
 ghost use Rattle.replica_map.specs.Books.{entry_at};
 ghost use Rattle.replica_map.specs.declared.entry.State.TheVariants.{Finalised, Unsure, Waiting};
 ghost use Rattle.pool_state.specs.Books.{block_books};
+ghost use Rattle.pool_state.specs.BookSteps.{BooksDeleted};
 ghost use Rattle.pool_state.specs.Stands.{Stands, StandsForSome};
 
 use crate::bookkeeping::{put, take_away};
@@ -35,7 +37,7 @@ impl<D: PoolDisks> Pool<D> {
     /// Why a deletion of a block would be refused; none where it has files to be deleted, and no writer.
     pub fn delete_refusal(&self, id: BlockId) -> Option<DeleteFault>
         ensures refused { (cells : Cells) → Stands self.now nothing cells →
-            IfSome result (λ fault. Step unlimited (cells id) delete (delete_fault fault) (cells id)) }
+            IfSome result (λ fault. Step (room_of self.now) (cells id) delete (delete_fault fault) (cells id)) }
         ensures none { (cells : Cells) → Stands self.now nothing cells → result ≡ None → delete_refusal (cells id) ≡ None }
         ensures valid { IsBlockId id }
         ensures not_failed { IfSome result (λ fault. fault ≢ DeleteFault.Failed) }
@@ -52,7 +54,9 @@ impl<D: PoolDisks> Pool<D> {
         requires stands { StandsForSome self.old }
         ensures step { (cells : Cells) → Stands self.old nothing cells → Deletes id result cells self.old self.new × KeepsWhole self.old self.new }
         ensures others { (other : ℕ) → other ≢ id → block_books self.new.map other ≡ block_books self.old.map other }
+        ensures books { BooksDeleted result (block_books self.old.map id) (block_books self.new.map id) }
         ensures goes_on { GoesOn D.PoolDisks self.old.disks self.new.disks }
+        ensures shares { self.new.shares ≡ self.old.shares }
         ensures failed { IsErrOf result DeleteFault.Failed → Rose (D.faults self.old.disks) (D.faults self.new.disks) }
     {
         let Some(entry) = self.map.find(id) else {
@@ -75,7 +79,9 @@ impl<D: PoolDisks> Pool<D> {
         requires stands { StandsForSome self.old }
         ensures step { (cells : Cells) → Stands self.old nothing cells → Deletes id result cells self.old self.new × KeepsWhole self.old self.new }
         ensures others { (other : ℕ) → other ≢ id → block_books self.new.map other ≡ block_books self.old.map other }
+        ensures books { BooksDeleted result (block_books self.old.map id) (block_books self.new.map id) }
         ensures goes_on { GoesOn D.PoolDisks self.old.disks self.new.disks }
+        ensures shares { self.new.shares ≡ self.old.shares }
         ensures failed { IsErr result → Rose (D.faults self.old.disks) (D.faults self.new.disks) }
     {
         let files = [BlockFile::Block, BlockFile::Meta(entry.stamp)];
@@ -106,7 +112,9 @@ impl<D: PoolDisks> Pool<D> {
         requires stands { StandsForSome self.old }
         ensures step { (cells : Cells) → Stands self.old nothing cells → Deletes id result cells self.old self.new × KeepsWhole self.old self.new }
         ensures others { (other : ℕ) → other ≢ id → block_books self.new.map other ≡ block_books self.old.map other }
+        ensures books { BooksDeleted result (block_books self.old.map id) (block_books self.new.map id) }
         ensures goes_on { GoesOn D.PoolDisks self.old.disks self.new.disks }
+        ensures shares { self.new.shares ≡ self.old.shares }
         ensures failed { IsErr result → Rose (D.faults self.old.disks) (D.faults self.new.disks) }
     {
         let files = [
@@ -133,7 +141,9 @@ impl<D: PoolDisks> Pool<D> {
         requires stands { StandsForSome self.old }
         ensures step { (cells : Cells) → Stands self.old nothing cells → Deletes id result cells self.old self.new × KeepsWhole self.old self.new }
         ensures others { (other : ℕ) → other ≢ id → block_books self.new.map other ≡ block_books self.old.map other }
+        ensures books { BooksDeleted result (block_books self.old.map id) (block_books self.new.map id) }
         ensures goes_on { GoesOn D.PoolDisks self.old.disks self.new.disks }
+        ensures shares { self.new.shares ≡ self.old.shares }
         ensures failed { IsErr result → Rose (D.faults self.old.disks) (D.faults self.new.disks) }
     {
         match self.clean(id) {

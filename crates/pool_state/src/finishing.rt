@@ -5,8 +5,10 @@ ghost use Rattle.disk_model.specs.Marks.{GoesOn};
 ghost use Rattle.map_model.specs.Cells.{Cells, growing, waiting};
 ghost use Rattle.map_model.specs.Sound.{nothing};
 ghost use Rattle.map_model.specs.Steps.{Command, Step, finish, drop_write, failed};
-ghost use Rattle.pool_state.specs.Answers.{unlimited, IsWritten};
+ghost use Rattle.pool_state.specs.Answers.{IsWritten};
 ghost use Rattle.pool_state.specs.Books.{block_books};
+ghost use Rattle.pool_state.specs.BookSteps.{BooksFinished, BooksDropped, given_up};
+ghost use Rattle.pool_state.specs.Rooms.{room_of};
 ghost use Rattle.pool_state.specs.Tenures.{Takes, PairBelongs, Finishes, Drops, KeepsWhole};
 ghost use Rattle.pool_state.specs.Stands.{Stands, StandsForSome};
 ghost use Rattle.pool_state.specs.Writers.{meta_of};
@@ -26,7 +28,9 @@ impl<D: PoolDisks> Pool<D> {
         ensures step { (cells : Cells) (bytes : List ℕ) (left : ℕ) (belongs : PairBelongs self.old pair bytes) → Stands self.old nothing cells →
             cells pair.id ≡ growing pair.stamp None bytes left → Finishes pair.id pair.stamp result bytes (meta_of belongs) cells self.old self.new × KeepsWhole self.old self.new }
         ensures others { (other : ℕ) → other ≢ pair.id → block_books self.new.map other ≡ block_books self.old.map other }
+        ensures books { BooksFinished result pair.len (block_books self.old.map pair.id) (block_books self.new.map pair.id) }
         ensures goes_on { GoesOn D.PoolDisks self.old.disks self.new.disks }
+        ensures shares { self.new.shares ≡ self.old.shares }
         ensures failed { IsErr result → Rose (D.faults self.old.disks) (D.faults self.new.disks) }
     {
         let SealedPair {
@@ -85,7 +89,9 @@ impl<D: PoolDisks> Pool<D> {
         ensures step { (cells : Cells) (bytes : List ℕ) (left : ℕ) → Stands self.old nothing cells →
             cells writer.id ≡ growing writer.stamp None bytes left → Drops writer.id result cells self.old self.new × KeepsWhole self.old self.new }
         ensures others { (other : ℕ) → other ≢ writer.id → block_books self.new.map other ≡ block_books self.old.map other }
+        ensures books { BooksDropped result (block_books self.old.map writer.id) (block_books self.new.map writer.id) }
         ensures goes_on { GoesOn D.PoolDisks self.old.disks self.new.disks }
+        ensures shares { self.new.shares ≡ self.old.shares }
         ensures failed { IsErr result → Rose (D.faults self.old.disks) (D.faults self.new.disks) }
     {
         let id = writer.id;
@@ -119,10 +125,12 @@ impl<D: PoolDisks> Pool<D> {
     pub fn fail_write(&mut self, writer: Writing<D>)
         requires writes { IsWritten (block_books self.old.map writer.id).entry }
         ensures step { (cells : Cells) (command : Command) (stamp left : ℕ) (bytes : List ℕ) → Stands self.old nothing cells →
-            cells writer.id ≡ growing stamp None bytes left → Step unlimited (growing stamp None bytes left) command failed waiting →
+            cells writer.id ≡ growing stamp None bytes left → Step (room_of self.old) (growing stamp None bytes left) command failed waiting →
             Takes writer.id command failed (λ cell. cell ≡ waiting) cells self.old self.new × KeepsWhole self.old self.new }
         ensures others { (other : ℕ) → other ≢ writer.id → block_books self.new.map other ≡ block_books self.old.map other }
+        ensures books { block_books self.new.map writer.id ≡ given_up (block_books self.old.map writer.id) }
         ensures disks { self.new.disks ≡ self.old.disks }
+        ensures shares { self.new.shares ≡ self.old.shares }
     {
         let Some(entry) = self.map.find(writer.id) else {
             unreachable!();

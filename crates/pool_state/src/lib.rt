@@ -11,6 +11,7 @@ mod read_pair;
 mod reading;
 mod start_fault;
 mod start_write;
+mod volume_room;
 
 pub use deleting::DeleteFault;
 pub use pair_draft::{PushFault, SealFault, SealedPair, Writing};
@@ -19,6 +20,7 @@ pub use pool_record::Pool;
 pub use read_pair::ReadPair;
 pub use replica_map::{Entry, Leftover, ReplicaMap, Row, State};
 pub use start_fault::StartFault;
+pub use volume_room::MOST_LENGTH;
 
 #[cfg(test)]
 mod tests;

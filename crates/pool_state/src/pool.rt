@@ -1,5 +1,5 @@
 //! A pool: its disks and its books.
-ghost use Rattle.std.specs.Prelude.{◌≡◌, ◌≤◌};
+ghost use Rattle.std.specs.Prelude.{◌≡◌, ◌≤◌, length};
 ghost use Rattle.map_model.specs.Cells.{absent};
 ghost use Rattle.map_model.specs.Sound.{Knowledge};
 ghost use Rattle.pool_state.specs.Stands.{Stands, HoldNoBlock};
@@ -10,15 +10,18 @@ use replica_map::ReplicaMap;
 use std::alloc::Global;
 
 /// A pool without replicas, over disks that hold no file of a block. It takes no memory and makes no device call.
-pub fn make_pool<D: PoolDisks>(alloc: Global, disks: D) -> Pool<D>
+pub fn make_pool<D: PoolDisks>(alloc: Global, disks: D, shares: Vec<u64>) -> Pool<D>
     requires some_volume { 1 ≤ D.volume_count disks }
+    requires shares { length shares.items ≡ D.volume_count disks }
     requires empty { HoldNoBlock (D.worlds disks) }
     ensures stands { (known : Knowledge) → Stands result known (λ id. absent) }
     ensures disks { result.disks ≡ disks }
+    ensures shares { result.shares ≡ shares }
 {
     Pool {
         disks,
         map: ReplicaMap::make(alloc),
+        shares,
     }
 }
 

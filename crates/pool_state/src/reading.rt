@@ -8,8 +8,9 @@ ghost use Rattle.map_model.specs.Cells.{Cells};
 ghost use Rattle.map_model.specs.Sound.{Knowledge, nothing};
 ghost use Rattle.volume_layout.specs.BlockFiles.{path_of};
 ghost use Rattle.map_model.specs.Steps.{Step, read};
-ghost use Rattle.pool_state.specs.Answers.{unlimited, start_fault, read_fault};
+ghost use Rattle.pool_state.specs.Answers.{start_fault, read_fault};
 ghost use Rattle.pool_state.specs.Books.{block_books};
+ghost use Rattle.pool_state.specs.Rooms.{room_of};
 ghost use Rattle.pool_state.specs.Tenures.{Rests, GivesNumber, KeepsWhole};
 ghost use Rattle.pool_state.specs.Stands.{Stands, StandsForSome};
 ghost use Rattle.pool_state.specs.Readers.{reader_bytes, file_of, IsLent, AreFilesOf, LooksForPair};
@@ -63,7 +64,7 @@ impl<D: PoolDisks> Pool<D> {
         ensures quiet { (cells : Cells) → Stands self.old nothing cells →
             Rests cells self.old self.new × KeepsWhole self.old self.new }
         ensures refused { (cells : Cells) → Stands self.old nothing cells →
-            IfErr result (λ fault. Step unlimited (cells id) read (start_fault fault) (cells id)) }
+            IfErr result (λ fault. Step (room_of self.old) (cells id) read (start_fault fault) (cells id)) }
         ensures lent { (known : Knowledge) (cells : Cells) → Stands self.old known cells →
             IfOk result (λ pair. IsLent known id self.old (cells id) pair) }
         ensures files { IfSome (block_books self.old.map id).entry (λ entry.
@@ -71,6 +72,7 @@ impl<D: PoolDisks> Pool<D> {
         ensures block_number { IfOk result (λ pair. IfSome pair.block (λ reader. GivesNumber self.old self.new (D.Reader.number reader))) }
         ensures meta_number { IfOk result (λ pair. IfSome pair.meta (λ reader. GivesNumber self.old self.new (D.Reader.number reader))) }
         ensures goes_on { GoesOn D.PoolDisks self.old.disks self.new.disks }
+        ensures shares { self.new.shares ≡ self.old.shares }
         ensures looked { IsOk result → LooksForPair self.old self.new }
         ensures failed { IsErrOf result StartFault.Failed → Rose (D.faults self.old.disks) (D.faults self.new.disks) }
     {

@@ -12,6 +12,10 @@ pub enum StartFault {
     Waiting,
     /// The block is in doubt.
     Unsure,
+    /// No volume has room for the length: `need` bytes are asked for, and `free` is the most that a volume has.
+    Full { need: u64, free: u64 },
+    /// The length passes the limit of a block, in bytes.
+    TooLong { limit: u64 },
     /// The disks failed.
     Failed,
     /// There was no memory.

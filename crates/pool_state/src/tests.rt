@@ -15,7 +15,7 @@ fn empty_pool(alloc: Global) -> Result<Pool<MemDisks>, AllocError>
     ensures stands { IfOk result (λ pool. StandsForSome pool) }
 {
     let disks = MemDisks::empty(alloc, 1)?;
-    Ok(make_pool(alloc, disks))
+    Ok(make_pool(alloc, disks, vec![in alloc; 1 << 50]?))
 }
 
 // Writes a whole block.
@@ -136,6 +136,6 @@ fn a_block_that_is_written_refuses_others(rt: HostRuntime) -> Result<(), Fail> {
         refused_meanwhile(alloc, &mut pool, id, stamp),
         Ok((Some(StartFault::Writing), Err(PushFault::Over { left: 2 })))
     );
-    assert_eq!(rt; pool.write_refusal(id), Some(StartFault::Writing));
+    assert_eq!(rt; pool.write_refusal(id, 3), Some(StartFault::Writing));
     Ok(())
 }

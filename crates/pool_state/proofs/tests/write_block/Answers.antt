@@ -5,6 +5,7 @@ use Rattle.map_model.specs.Sound.{nothing}
 use Rattle.pair_draft.specs.Writers.{writer_of}
 use Rattle.pool_state.specs.Books.{block_books}
 use Rattle.pool_state.specs.Stands.{with_cell}
+use Rattle.pool_state.proofs.AnyRoom.{any_room}
 use Rattle.pool_state.proofs.Belonging.{stands_pushed, stands_sealed}
 use Rattle.pool_state.proofs.EmptyDisks.{own_cell, at_ok, bare_cell}
 use Rattle.pool_state.proofs.Pushing.{pushes}
@@ -58,7 +59,7 @@ returns-in-Ok-finish g c =
     let pair = stands_sealed pushed sealed.id sealed.stamp sealed.vol sealed.places.0 sealed.places.1 (sealed.sealed _ _ has_pushed) in
     let grows = own_cell cells c.args.id w.id started.to.cell what.0
     ∙ bare_cell started.to.cell c.args.stamp w.stamp _ w.reserved w.len (started.to.says.3 (ap is_ok c.in_ok-writer.was)) what.1 what.2 written.pushed.len in
-    let grown = pushes _ _ (block_books c.start_write.new.self.map) (with_cell cells c.args.id started.to.cell) (writer_of g.D.Draft.Draft.place g.D.Draft.Draft.bytes w) [] piece new.stamp new.len new.reserved
+    let grown = pushes {room = any_room} _ _ (block_books c.start_write.new.self.map) (with_cell cells c.args.id started.to.cell) (writer_of g.D.Draft.Draft.place g.D.Draft.Draft.bytes w) [] piece new.stamp new.len new.reserved
     written grows (at_ok c.push.result not_err c.push.ensures.within) keeps.stamp (at_ok c.push.result not_err c.push.ensures.len) keeps.reserved in
     let left = new.reserved - new.len in
     let ended = (c.finish.ensures.step (with_cell (with_cell cells c.args.id started.to.cell) w.id grown.cell) piece left pair (grown.stands _ (started.to.stands _ c.requires.stands.1))
@@ -83,7 +84,7 @@ returns-in-Err g c =
     let pair = stands_sealed pushed sealed.id sealed.stamp sealed.vol sealed.places.0 sealed.places.1 (sealed.sealed _ _ has_pushed) in
     let grows = own_cell cells c.args.id w.id started.to.cell what.0
     ∙ bare_cell started.to.cell c.args.stamp w.stamp _ w.reserved w.len (started.to.says.3 (ap is_ok c.in_ok-writer.was)) what.1 what.2 written.pushed.len in
-    let grown = pushes _ _ (block_books c.start_write.new.self.map) (with_cell cells c.args.id started.to.cell) (writer_of g.D.Draft.Draft.place g.D.Draft.Draft.bytes w) [] piece new.stamp new.len new.reserved
+    let grown = pushes {room = any_room} _ _ (block_books c.start_write.new.self.map) (with_cell cells c.args.id started.to.cell) (writer_of g.D.Draft.Draft.place g.D.Draft.Draft.bytes w) [] piece new.stamp new.len new.reserved
     written grows (at_ok c.push.result not_err c.push.ensures.within) keeps.stamp (at_ok c.push.result not_err c.push.ensures.len) keeps.reserved in
     let left = new.reserved - new.len in
     let ended = (c.finish.ensures.step (with_cell (with_cell cells c.args.id started.to.cell) w.id grown.cell) piece left pair (grown.stands _ (started.to.stands _ c.requires.stands.1))

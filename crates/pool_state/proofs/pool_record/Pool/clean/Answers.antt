@@ -1,5 +1,8 @@
-use Rattle.std.proofs.Common.{◌∙◌, arith}
+use Rattle.std.proofs.Common.{◌+◌, ◌∙◌, ap, arith}
+use Rattle.std.specs.Prelude.{drop}
+use Rattle.std.proofs.lemmas.List.{drop-drop}
 use Rattle.disk_model.proofs.GoingOn.{went_then}
+use Rattle.pool_state.specs.Books.{left_at}
 use Rattle.pool_state.proofs.QuietRemovals.{both_quiet}
 use Rattle.pool_state.proofs.pool_record.Pool.clean.Goals as goal
 
@@ -17,7 +20,17 @@ loop-preserved g c = record {
       let was = c.loop.invariant.quiet cells stands in
       both_quiet was (c.clean_one.ensures.quiet cells (was.0.stands _ stands));
   fewer = omega (arith, c.loop.invariant.fewer, c.in_ok-clean_one.ensures.fewer);
+  front = (
+    c.loop.invariant.front.0 + 1,
+    c.in_ok-clean_one.ensures.front ∙ ap (drop 1) c.loop.invariant.front.1 ∙ drop-drop 1 c.loop.invariant.front.0 (left_at c.args.self.now.map c.args.id),
+  );
   rows = (c.clean_one.ensures.rows.0 ∙ c.loop.invariant.rows.0, c.clean_one.ensures.rows.1 ∙ c.loop.invariant.rows.1);
+  tickets = c.clean_one.ensures.tickets ∙ c.loop.invariant.tickets;
   others = λ other apart. c.clean_one.ensures.others other apart ∙ c.loop.invariant.others other apart;
+  shares = c.clean_one.ensures.shares ∙ c.loop.invariant.shares;
   goes_on = went_then _ _ _ _ c.loop.invariant.goes_on c.clean_one.ensures.goes_on;
 }
+
+pub returns-in_err-clean_one-clause-front : goal.returns-in_err-clean_one-clause-front
+returns-in_err-clean_one-clause-front g c =
+    (c.loop.invariant.front.0, ap (λ m. left_at m c.args.id) c.in_err-clean_one.ensures.kept ∙ c.loop.invariant.front.1)

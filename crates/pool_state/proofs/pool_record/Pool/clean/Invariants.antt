@@ -1,8 +1,8 @@
-use Rattle.std.specs.Prelude.{◌≡◌, ◌≢◌, ◌+◌, ◌≤◌, ℕ, length}
+use Rattle.std.specs.Prelude.{◌≡◌, ◌≢◌, ◌+◌, ◌≤◌, ℕ, drop, length}
 use Rattle.map_model.specs.Cells.{Cells}
 use Rattle.map_model.specs.Sound.{nothing}
 use Rattle.replica_map.specs.Books.{SameRows}
-use Rattle.pool_state.specs.Books.{block_books}
+use Rattle.pool_state.specs.Books.{block_books, left_at}
 use Rattle.disk_model.specs.Marks.{GoesOn}
 use Rattle.pool_state.specs.Stands.{Stands, StandsForSome}
 use Rattle.pool_state.specs.Tenures.{Rests, KeepsWhole}
@@ -14,7 +14,10 @@ invariant-loop g l = record {
   quiet : (cells : Cells) → Stands l.fn.self nothing cells →
       Rests cells l.fn.self l.self × KeepsWhole l.fn.self l.self;
   fewer : length l.self.map.leftovers + l.counter ≤ l.end;
+  front : (count : ℕ) × (left_at l.self.map l.id ≡ drop count (left_at l.fn.self.map l.id));
   rows : SameRows l.fn.self.map l.self.map;
+  tickets : l.self.map.tickets ≡ l.fn.self.map.tickets;
   others : (other : ℕ) → other ≢ l.id → block_books l.self.map other ≡ block_books l.fn.self.map other;
+  shares : l.self.shares ≡ l.fn.self.shares;
   goes_on : GoesOn g.D.PoolDisks l.fn.self.disks l.self.disks;
 }

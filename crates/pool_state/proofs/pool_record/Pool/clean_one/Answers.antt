@@ -2,7 +2,7 @@ use Rattle.std.proofs.Common.{refl, sym, ◌∙◌, option_map}
 use Rattle.replica_map.specs.Books.{entry_at, grown_at}
 use Rattle.pool_state.specs.Books.{book_entry, book_leftover}
 use Rattle.pool_state.proofs.Changing.{unchanged, others_stay}
-use Rattle.pool_state.proofs.Listing.{listed, rest, within, one_fewer, dropped}
+use Rattle.pool_state.proofs.Listing.{listed, rest, within, one_fewer, dropped, first_gone}
 use Rattle.pool_state.proofs.Reaching.{reaches_removed_at, reaches_remove_at}
 use Rattle.pool_state.proofs.Showing.{begins, calls, rests}
 use Rattle.pool_state.proofs.QuietRemovals.{left_placed, removal_failed, removal_done, quiet_images, quiet_stands}
@@ -63,3 +63,6 @@ returns-clause-quiet g c cells stands =
           (dropped id c.args.at map first c.drop_leftover.new.self c.drop_leftover.ensures.rows c.drop_leftover.ensures.leftovers c.drop_leftover.ensures.others),
       calls _ (begins _ _) c.remove.ensures.time.nothing_else (quiet_images old id valid reaches leads),
     )) stands
+
+pub returns-clause-front : goal.returns-clause-front
+returns-clause-front g c = first_gone c.args.id c.args.at c.args.self.now.map c.requires.first c.drop_leftover.new.self c.drop_leftover.ensures.rows c.drop_leftover.ensures.leftovers

@@ -1,7 +1,7 @@
 use Rattle.std.proofs.Common.{refl, sym, ◌∙◌, subst}
 use Rattle.map_model.specs.Steps.{Step, delete, no_block}
 use Rattle.replica_map.specs.Books.{grown_at}
-use Rattle.pool_state.specs.Answers.{unlimited}
+use Rattle.pool_state.proofs.AnyRoom.{any_room}
 use Rattle.pool_state.proofs.Entries.{nothing_said, agrees_by}
 use Rattle.pool_state.proofs.Starting.{is_absent}
 use Rattle.pool_state.proofs.Deletions.{refused_cell, free_cell}
@@ -21,5 +21,5 @@ returns-in-Some-clause-none g c cells stands is =
 
 pub returns-in-None-clause-refused : goal.returns-in-None-clause-refused
 returns-in-None-clause-refused g c cells stands =
-    subst (λ cell. Step unlimited cell delete no_block cell)
+    subst (λ cell. Step any_room cell delete no_block cell)
     (sym (is_absent stands c.args.id c.find.ensures.valid (nothing_said c.args.self.now.map c.args.id (stands.fit c.args.id c.find.ensures.valid) (sym c.find.ensures.value ∙ c.in-None.is)))) (refl, refl)

@@ -1,4 +1,4 @@
-use Rattle.std.proofs.Common.{◌≡◌, ◌≤◌, Some, None, [], ◌∷◌, true, inr, refl, sym, ◌∙◌, ap, subst, arith}
+use Rattle.std.proofs.Common.{◌≡◌, ◌≤◌, Some, None, [], ◌∷◌, true, inl, inr, refl, sym, ◌∙◌, ap, subst, arith}
 use Rattle.disk_model.proofs.GoingOn.{went_call, went_then}
 use Rattle.volume_layout.proofs.Reading.{is_stamp-IsStamp}
 use Rattle.map_model.specs.Cells.{absent, waiting}
@@ -8,12 +8,13 @@ use Rattle.map_model.specs.Steps.{Step, drop_write, failed, done}
 use Rattle.map_model.specs.Tenures.{Fails, block_left, meta_left, block_failed, meta_failed}
 use Rattle.replica_map.specs.Books.{grown_at}
 use Rattle.replica_map.specs.declared.entry.State.TheVariants.{Writing}
-use Rattle.pool_state.specs.Answers.{unlimited}
+use Rattle.pool_state.proofs.AnyRoom.{any_room}
 use Rattle.pool_state.specs.Books.{books_with, held_block, held_meta, waits, with_leftover}
+use Rattle.pool_state.specs.BookSteps.{given_up as given_up_books, given_up_meta}
 use Rattle.pool_state.specs.Reaching.{Then}
 use Rattle.pool_state.proofs.Reaching.{reaches_then, reaches_removed_at, reaches_remove_at}
 use Rattle.pool_state.proofs.Changing.{pool_stands}
-use Rattle.pool_state.proofs.Entries.{writer_in, is_written_entry, written_here, calm_left, not_unwritten, entry_on, settled}
+use Rattle.pool_state.proofs.Entries.{with_entry, become, become_alone, writer_in, is_written_entry, written_here, calm_left, not_unwritten, entry_on, settled}
 use Rattle.pool_state.proofs.Showing.{begins, calls, shown, takes, passes_end}
 use Rattle.pool_state.proofs.Ends.{drop_step, writer_placed, dropping_passes, given_up, dropped_leads}
 use Rattle.pool_state.proofs.pool_record.Pool.drop_write.Goals as goal
@@ -53,7 +54,7 @@ returns-in-Err-clause-step g c cells bytes left stands grows =
     let placed = writer_placed stands id stamp left bytes valid grows w is in
     let step : View → View → Type 0 = λ before after. Fails before (remove_in before w.vol WritingBlock) after in
     let reaches = reaches_remove_at id w.vol WritingBlock valid refl _ (c.as_str.ensures ∙ c.rbw_block.ensures) _ _ c.in-Err.ensures.worlds in
-    takes waiting (subst (λ cell. Step unlimited cell drop_write failed waiting) (sym grows) (drop_step stamp left bytes failed waiting refl))
+    takes waiting (subst (λ cell. Step any_room cell drop_write failed waiting) (sym grows) (drop_step stamp left bytes failed waiting refl))
     (λ e. refl, λ e. absurd cc)
     (λ known old.
     let leads = given_up old id stamp left bytes valid grows w is step (block_left w true ∷ meta_left w true ∷ []) (placed, (placed, tt)) (λ before after stepped. block_failed after stepped) in (
@@ -82,7 +83,7 @@ returns-in-Err-remove-clause-step g c cells bytes left stands grows =
     let first = reaches_removed_at id w.vol WritingBlock valid refl _ (c.as_str.ensures ∙ c.rbw_block.ensures) _ _ c.in-Ok.ensures.ok in
     let reaches = reaches_then id _ _ _ _ _ first
     (reaches_remove_at id w.vol (WritingMeta w.stamp) valid (is_stamp-IsStamp w.stamp stamped) _ (c.as_str-2.ensures ∙ c.rbw_meta.ensures) _ _ c.in-Err-remove.ensures.worlds) in
-    takes waiting (subst (λ cell. Step unlimited cell drop_write failed waiting) (sym grows) (drop_step stamp left bytes failed waiting refl))
+    takes waiting (subst (λ cell. Step any_room cell drop_write failed waiting) (sym grows) (drop_step stamp left bytes failed waiting refl))
     (λ e. refl, λ e. absurd cc)
     (λ known old.
     let half = given_up old id stamp left bytes valid grows w is one (block_left w true ∷ meta_left w true ∷ []) (placed, (placed, tt)) (λ before after stepped. block_failed after (inr stepped)) in
@@ -114,7 +115,7 @@ returns-clause-step g c cells bytes left stands grows =
     let first = reaches_removed_at id w.vol WritingBlock valid refl _ (c.as_str.ensures ∙ c.rbw_block.ensures) _ _ c.in-Ok.ensures.ok in
     let reaches = reaches_then id _ _ _ _ _ first
     (reaches_removed_at id w.vol (WritingMeta w.stamp) valid (is_stamp-IsStamp w.stamp stamped) _ (c.as_str-2.ensures ∙ c.rbw_meta.ensures) _ _ c.in-Ok-remove.ensures.ok) in
-    takes absent (subst (λ cell. Step unlimited cell drop_write done absent) (sym grows) (drop_step stamp left bytes done absent (refl, refl)))
+    takes absent (subst (λ cell. Step any_room cell drop_write done absent) (sym grows) (drop_step stamp left bytes done absent (refl, refl)))
     (λ e. absurd cc, λ e. refl)
     (λ known old.
     let half = given_up old id stamp left bytes valid grows w is one (block_left w true ∷ meta_left w true ∷ []) (placed, (placed, tt)) (λ before after stepped. block_failed after (inr stepped)) in
@@ -138,3 +139,26 @@ returns-clause-goes_on g c = went_then g.D.PoolDisks _ _ _
 pub returns-in-Err-clause-goes_on : goal.returns-in-Err-clause-goes_on
 returns-in-Err-clause-goes_on g c =
     went_call g.D.PoolDisks (g.met.D.PoolDisks.counts_now _) c.in-Err.ensures.time c.in-Err.ensures.worlds.honest c.in-Err.ensures.cause.later c.in-Err.ensures.absences (omega (arith, c.in-Err.ensures.numbers)) c.in-Err.ensures.volumes
+
+pub returns-in-Err-clause-books : goal.returns-in-Err-clause-books
+returns-in-Err-clause-books g c =
+    let map = c.args.self.now.map in
+    let e = c.in-Some.entry in
+    inl (become map c.give_up.new.map (λ l. with_leftover (held_meta e) (with_leftover (held_block e) (books_with None (Some (waits e)) l))) c.in-Some.ensures.own c.give_up.ensures.books
+    ∙ sym (ap given_up_books (with_entry map c.args.writer.id e (sym c.find.ensures.value ∙ c.in-Some.is))))
+
+pub returns-in-Err-remove-clause-books : goal.returns-in-Err-remove-clause-books
+returns-in-Err-remove-clause-books g c =
+    let map = c.args.self.now.map in
+    let e = c.in-Some.entry in
+    inr (become map c.give_up_meta.new.map (λ l. with_leftover (held_meta e) (books_with None (Some (waits e)) l)) c.in-Some.ensures.own c.give_up_meta.ensures.books
+    ∙ sym (ap given_up_meta (with_entry map c.args.writer.id e (sym c.find.ensures.value ∙ c.in-Some.is))))
+
+pub returns-clause-books : goal.returns-clause-books
+returns-clause-books g c =
+    let id = c.args.writer.id in
+    let map = c.args.self.now.map in
+    let e = c.in-Some.entry in
+    let has = sym c.find.ensures.value ∙ c.in-Some.is in
+    become_alone map c.take_away.new.map (λ l. books_with None None l) c.in-Some.ensures.own c.take_away.ensures.books
+    (calm_left map id (c.requires.stands.1.fit id c.find.ensures.valid) e has Writing (is_written_entry map id e has c.requires.writes) tt)

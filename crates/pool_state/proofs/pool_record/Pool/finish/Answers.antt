@@ -3,7 +3,7 @@ use Rattle.disk_model.proofs.GoingOn.{went_call, went_then}
 use Rattle.volume_layout.proofs.Reading.{is_stamp-IsStamp}
 use Rattle.map_model.specs.Cells.{Replica, final, unsure}
 use Rattle.map_model.specs.Steps.{Step, finish, failed, done}
-use Rattle.pool_state.specs.Answers.{unlimited}
+use Rattle.pool_state.proofs.AnyRoom.{any_room}
 use Rattle.volume_layout.specs.declared.block_file.BlockFile.TheVariants.{Block, Meta, WritingBlock, WritingMeta}
 use Rattle.map_model.specs.Slots.{View, publish_in}
 use Rattle.map_model.specs.Stands.{in_doubt, is_final}
@@ -14,8 +14,9 @@ use Rattle.map_model.specs.Sound.{learned}
 use Rattle.pool_state.specs.Writers.{meta_of}
 use Rattle.replica_map.specs.declared.entry.State.TheVariants.{Finalised, Unsure}
 use Rattle.pool_state.specs.Books.{books_with}
+use Rattle.pool_state.specs.BookSteps.{in_state, with_replica}
 use Rattle.pool_state.proofs.Changing.{pool_stands, learns}
-use Rattle.pool_state.proofs.Entries.{has_entry, same_writer, writer_left, settled, settled_as}
+use Rattle.pool_state.proofs.Entries.{with_entry, become, has_entry, same_writer, writer_left, settled, settled_as}
 use Rattle.pool_state.proofs.Showing.{begins, calls, shown, takes_learning, passes_end}
 use Rattle.pool_state.proofs.Ends.{meta_fits, reaches_published_at, reaches_publish_at, same_told, finish_step, meta_stands, block_stands, new_passes, finish_doubts, finish_ends, writer}
 use Rattle.pool_state.proofs.pool_record.Pool.finish.Goals as goal
@@ -42,7 +43,7 @@ returns-in-Err-clause-step g c cells bytes left belongs stands grows =
     (is_stamp-IsStamp p.stamp belongs.valid.1) (is_stamp-IsStamp p.stamp belongs.valid.1) _ _ belongs.meta (c.as_str.ensures ∙ c.meta_path.ensures) _ _
     (λ told. same_told _ _ (belongs.sealed.meta_bytes told)) c.in-Err.ensures.worlds in
     takes_learning (learned p.id p.stamp (meta_of belongs)) refl (unsure None (Some new) false)
-    (subst (λ cell. Step unlimited cell finish failed (unsure None (Some new) false)) (sym grows) (finish_step p.stamp left bytes failed (unsure None (Some new) false) (inr refl)))
+    (subst (λ cell. Step any_room cell finish failed (unsure None (Some new) false)) (sym grows) (finish_step p.stamp left bytes failed (unsure None (Some new) false) (inr refl)))
     (λ e. refl, λ e. absurd cc)
     (λ known was. let old = learns was p.id p.stamp left bytes (meta_of belongs) grows in (
       pool_stands old p.id belongs.valid.0 reaches c.in-Err.ensures.volumes (finish_doubts old _ bytes belongs left grows (meta_fits known belongs) step (λ before after stepped. meta_failed after stepped))
@@ -82,7 +83,7 @@ returns-in-Err-publish-clause-step g c cells bytes left belongs stands grows =
     refl refl _ _ belongs.block (c.as_str-2.ensures ∙ c.block_path.ensures) _ _
     (λ told. same_told _ _ (belongs.sealed.block_bytes (c.in-Ok.ensures.worlds.honest.1 told))) c.in-Err-publish.ensures.worlds) in
     takes_learning (learned p.id p.stamp (meta_of belongs)) refl (unsure None (Some new) false)
-    (subst (λ cell. Step unlimited cell finish failed (unsure None (Some new) false)) (sym grows) (finish_step p.stamp left bytes failed (unsure None (Some new) false) (inr refl)))
+    (subst (λ cell. Step any_room cell finish failed (unsure None (Some new) false)) (sym grows) (finish_step p.stamp left bytes failed (unsure None (Some new) false) (inr refl)))
     (λ e. refl, λ e. absurd cc)
     (λ known was. let old = learns was p.id p.stamp left bytes (meta_of belongs) grows in (
       pool_stands old p.id belongs.valid.0 reaches (c.in-Err-publish.ensures.volumes ∙ c.in-Ok.ensures.volumes) (finish_doubts old _ bytes belongs left grows (meta_fits known belongs) step
@@ -115,7 +116,7 @@ returns-clause-step g c cells bytes left belongs stands grows =
     refl refl _ _ belongs.block (c.as_str-2.ensures ∙ c.block_path.ensures) _ _
     (λ told. same_told _ _ (belongs.sealed.block_bytes (c.in-Ok.ensures.worlds.honest.1 told))) c.in-Ok-publish.ensures.ok) in
     takes_learning (learned p.id p.stamp (meta_of belongs)) refl (final new)
-    (subst (λ cell. Step unlimited cell finish done (final new)) (sym grows) (finish_step p.stamp left bytes done (final new) (refl, refl)))
+    (subst (λ cell. Step any_room cell finish done (final new)) (sym grows) (finish_step p.stamp left bytes done (final new) (refl, refl)))
     (λ e. absurd cc, λ e. refl)
     (λ known was. let old = learns was p.id p.stamp left bytes (meta_of belongs) grows in (
       pool_stands old p.id belongs.valid.0 reaches (c.in-Ok-publish.ensures.volumes ∙ c.in-Ok.ensures.volumes) (finish_ends old _ bytes belongs left grows (meta_fits known belongs) step
@@ -142,3 +143,24 @@ returns-clause-goes_on g c = went_then g.D.PoolDisks _ _ _
 pub returns-in-Err-clause-goes_on : goal.returns-in-Err-clause-goes_on
 returns-in-Err-clause-goes_on g c =
     went_call g.D.PoolDisks (g.met.D.PoolDisks.counts_now _) c.in-Err.ensures.time c.in-Err.ensures.worlds.honest c.in-Err.ensures.cause.later c.in-Err.ensures.absences (omega (arith, c.in-Err.ensures.numbers)) c.in-Err.ensures.volumes
+
+pub returns-in-Err-clause-books : goal.returns-in-Err-clause-books
+returns-in-Err-clause-books g c =
+    let map = c.args.self.now.map in
+    let e = c.in-Some.entry in
+    become map c.put.new.map (λ l. books_with None (Some (record e { state = Unsure })) l) c.in-Some.ensures.own c.put.ensures.books
+    ∙ sym (ap (in_state (in_doubt None)) (with_entry map c.args.pair.id e (sym c.find.ensures.value ∙ c.in-Some.is)))
+
+pub returns-in-Err-publish-clause-books : goal.returns-in-Err-publish-clause-books
+returns-in-Err-publish-clause-books g c =
+    let map = c.args.self.now.map in
+    let e = c.in-Some.entry in
+    become map c.put-in-Err-publish.new.map (λ l. books_with None (Some (record e { state = Unsure })) l) c.in-Some.ensures.own c.put-in-Err-publish.ensures.books
+    ∙ sym (ap (in_state (in_doubt None)) (with_entry map c.args.pair.id e (sym c.find.ensures.value ∙ c.in-Some.is)))
+
+pub returns-clause-books : goal.returns-clause-books
+returns-clause-books g c =
+    let map = c.args.self.now.map in
+    let e = c.in-Some.entry in
+    become map c.put-2.new.map (λ l. books_with None (Some (record e { len = c.args.pair.len; state = Finalised })) l) c.in-Some.ensures.own c.put-2.ensures.books
+    ∙ sym (ap (with_replica c.args.pair.len) (with_entry map c.args.pair.id e (sym c.find.ensures.value ∙ c.in-Some.is)))

@@ -1,4 +1,5 @@
 use Rattle.std.proofs.Common.{refl, sym, ◌∙◌, ap}
+use Rattle.disk_model.proofs.GoingOn.{went_then}
 use Rattle.replica_map.specs.Books.{grown_at}
 use Rattle.pool_state.specs.Books.{entry_state, book_entry, left_at}
 use Rattle.pool_state.proofs.Entries.{said_by}
@@ -49,3 +50,9 @@ returns-clause-looked g c ok =
     (record { faults = two.faults; absences = two.absences; next_number = two.next_number; moment = two.moment })
     c.in_ok-block.block c.in_ok-meta.meta
     c.in_ok-block.ensures.absent c.in_ok-block.ensures.number c.in_ok-meta.ensures.absent c.in_ok-meta.ensures.number
+
+pub returns-in_err-meta-clause-goes_on : goal.returns-in_err-meta-clause-goes_on
+returns-in_err-meta-clause-goes_on g c = went_then g.D.PoolDisks _ _ _ c.in_ok-block.ensures.goes_on c.in_err-meta.ensures.goes_on
+
+pub returns-clause-goes_on : goal.returns-clause-goes_on
+returns-clause-goes_on g c = went_then g.D.PoolDisks _ _ _ c.in_ok-block.ensures.goes_on c.in_ok-meta.ensures.goes_on

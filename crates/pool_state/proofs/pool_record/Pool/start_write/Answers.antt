@@ -12,18 +12,16 @@ use Rattle.map_model.specs.Tenures.{books_of, writer_entry, written_books, block
 use Rattle.replica_map.specs.declared.entry.Entry.{Entry}
 use Rattle.replica_map.specs.declared.entry.Grown.{Grown}
 use Rattle.replica_map.specs.declared.entry.State.TheVariants.{Writing, Waiting}
-use Rattle.replica_map.specs.Books.{grown_at}
 use Rattle.pool_state.specs.Books.{block_books, books_with, held_block, held_meta, with_leftover}
 use Rattle.pool_state.specs.Writers.{writer_at}
 use Rattle.pool_state.specs.Stands.{IsVolume}
 use Rattle.pool_state.specs.Reaching.{Stays, Then}
 use Rattle.pool_state.proofs.Reaching.{reaches_same, reaches_create_at, reaches_created_at, reaches_then}
 use Rattle.pool_state.proofs.Changing.{pool_stands, changed_to, stands_unchanged}
-use Rattle.pool_state.proofs.Entries.{nothing_said, agrees_by}
+use Rattle.pool_state.proofs.Entries.{nothing_said, become_alone}
 use Rattle.pool_state.proofs.Showing.{begins, calls, shown, stays_passes, passes_end, takes}
-use Rattle.pool_state.proofs.Starting.{refused_step, refused_so, step_of, waits_passes, start_waits, start_grows, start_free, start_free_meta, is_absent}
-use Rattle.map_model.specs.Steps.{Step, start_write}
-use Rattle.pool_state.specs.Answers.{unlimited, start_fault}
+use Rattle.pool_state.proofs.Starting.{refused_books, step_of, waits_passes, start_waits, start_grows, start_free, start_free_meta, is_absent}
+use Rattle.pool_state.specs.Rooms.{room_of}
 use Rattle.std.proofs.lemmas.Bool.{eq-eqb}
 use Rattle.pair_draft.specs.Writers.{writer_of}
 use Rattle.pool_state.proofs.Belonging.{told_empty, started_stands}
@@ -34,25 +32,24 @@ not_waiting cell is waits = let same : absent ≡ waiting = sym is ∙ waits in 
 
 pub returns-in-Some-clause-step : goal.returns-in-Some-clause-step
 returns-in-Some-clause-step g c cells stands =
-    let id = c.args.id in
-    let map = c.args.self.now.map in
-    let so = refused_so c.in-Some.entry.state c.write_refusal.result c.write_refusal.ensures in
-    takes (cells id)
-    (subst (λ f. Step unlimited (cells id) (start_write c.args.stamp c.args.need) (start_fault f) (cells id)) (sym c.write_refusal.ensures)
-    (refused_step (cells id) (grown_at map id) c.in-Some.entry c.args.stamp c.args.need (agrees_by map id (stands.fit id c.find.ensures.valid) c.in-Some.entry (sym c.find.ensures.value ∙ c.in-Some.is))))
+    let so = c.in-Some.ensures.not_a_fault in
+    takes (cells c.args.id) (c.in-Some.ensures.refused cells c.args.stamp stands)
     (λ e. absurd (so.0 cc), λ e w. absurd (so.1 cc), λ e. inl refl, λ e. absurd cc)
-    (λ known old. (stands_unchanged id old refl refl (λ other. refl), begins _ _)) stands
+    (λ known old. (stands_unchanged c.args.id old refl refl (λ other. refl), begins _ _)) stands
+
+pub returns-in-Some-clause-books : goal.returns-in-Some-clause-books
+returns-in-Some-clause-books g c = refused_books c.in-Some.fault c.args.stamp c.args.need (block_books c.args.self.now.map c.args.id) c.in-Some.ensures.not_a_fault
 
 pub returns-in_default-reserve_sums-clause-step : goal.returns-in_default-reserve_sums-clause-step
 returns-in_default-reserve_sums-clause-step g c cells stands =
     let id = c.args.id in
     let map = c.args.self.now.map in
-    let valid = c.find.ensures.valid in
-    let no_entry = sym c.find.ensures.value ∙ c.in_default.is in
+    let valid = c.write_refusal.ensures.valid in
+    let no_entry = c.write_refusal.ensures.none c.in_default.is in
     let fit = stands.fit id valid in
     let none = nothing_said map id fit no_entry in
     takes (cells id)
-    (step_of stands id valid none c.args.stamp c.args.need memory (cells id) (omega arith) (inl (is_absent stands id valid none)))
+    (step_of stands id valid none (room_of c.args.self.now) c.args.stamp c.args.need memory (cells id) (c.write_refusal.ensures.fits c.in_default.is) (inl (is_absent stands id valid none)))
     (λ e. absurd cc, λ e w. absurd (not_waiting _ (is_absent stands id valid none) w), λ e. inl refl, λ e. absurd cc)
     (λ known old. (stands_unchanged id old refl refl (λ other. refl), begins _ _)) stands
 
@@ -60,12 +57,12 @@ pub returns-in_default-make_room-clause-step : goal.returns-in_default-make_room
 returns-in_default-make_room-clause-step g c cells stands =
     let id = c.args.id in
     let map = c.args.self.now.map in
-    let valid = c.find.ensures.valid in
-    let no_entry = sym c.find.ensures.value ∙ c.in_default.is in
+    let valid = c.write_refusal.ensures.valid in
+    let no_entry = c.write_refusal.ensures.none c.in_default.is in
     let fit = stands.fit id valid in
     let none = nothing_said map id fit no_entry in
     takes (cells id)
-    (step_of stands id valid none c.args.stamp c.args.need memory (cells id) (omega arith) (inl (is_absent stands id valid none)))
+    (step_of stands id valid none (room_of c.args.self.now) c.args.stamp c.args.need memory (cells id) (c.write_refusal.ensures.fits c.in_default.is) (inl (is_absent stands id valid none)))
     (λ e. absurd cc, λ e w. absurd (not_waiting _ (is_absent stands id valid none) w), λ e. inl refl, λ e. absurd cc)
     (λ known old. (stands_unchanged id old refl refl c.make_room.ensures.books, begins _ _)) stands
 
@@ -73,15 +70,15 @@ pub create-requires-clause-free : goal.create-requires-clause-free
 create-requires-clause-free g c =
     let id = c.args.id in
     subst (NoDraftAt (g.D.PoolDisks.worlds c.args.self.now.disks) 1) (sym (c.as_str.ensures ∙ c.rbw_block.ensures))
-    (start_free c.requires.stands.1 id c.find.ensures.valid
-    (nothing_said c.args.self.now.map id (c.requires.stands.1.fit id c.find.ensures.valid) (sym c.find.ensures.value ∙ c.in_default.is)) 1 WritingBlock refl)
+    (start_free c.requires.stands.1 id c.write_refusal.ensures.valid
+    (nothing_said c.args.self.now.map id (c.requires.stands.1.fit id c.write_refusal.ensures.valid) (c.write_refusal.ensures.none c.in_default.is)) 1 WritingBlock refl)
 
 pub returns-in-Err-Failed-clause-step : goal.returns-in-Err-Failed-clause-step
 returns-in-Err-Failed-clause-step g c cells stands =
     let id = c.args.id in
     let map = c.args.self.now.map in
-    let valid = c.find.ensures.valid in
-    let no_entry = sym c.find.ensures.value ∙ c.in_default.is in
+    let valid = c.write_refusal.ensures.valid in
+    let no_entry = c.write_refusal.ensures.none c.in_default.is in
     let fit = stands.fit id valid in
     let none = nothing_said map id fit no_entry in
     let made = c.make_room.new.map in
@@ -92,7 +89,7 @@ returns-in-Err-Failed-clause-step g c cells stands =
     let waiting_entry : Entry = record { id = id; stamp = c.args.stamp; len = c.args.need; vol = 1; rev = 0; state = Waiting } in
     let step : View → View → Type 0 = λ before after. Fails before (create_in before 1 WritingBlock b) after in
     let reaches = reaches_create_at id 1 WritingBlock b valid refl refl _ (c.as_str.ensures ∙ c.rbw_block.ensures) _ _ c.in-Err-Failed.ensures.worlds in
-    takes waiting (step_of stands id valid none c.args.stamp c.args.need failed waiting (omega arith) (inr refl))
+    takes waiting (step_of stands id valid none (room_of c.args.self.now) c.args.stamp c.args.need failed waiting (c.write_refusal.ensures.fits c.in_default.is) (inr refl))
     (λ e. refl, λ e w. absurd cc, λ e. inr refl, λ e. absurd cc)
     (λ known old.
     let leads = start_waits old id valid none w stamped (omega arith, old.some_volume) step (block_left w true ∷ []) ((omega arith, old.some_volume), tt) (λ before after stepped. block_failed after stepped) in (
@@ -106,12 +103,12 @@ pub returns-in-Err-Memory-clause-step : goal.returns-in-Err-Memory-clause-step
 returns-in-Err-Memory-clause-step g c cells stands =
     let id = c.args.id in
     let map = c.args.self.now.map in
-    let valid = c.find.ensures.valid in
-    let no_entry = sym c.find.ensures.value ∙ c.in_default.is in
+    let valid = c.write_refusal.ensures.valid in
+    let no_entry = c.write_refusal.ensures.none c.in_default.is in
     let fit = stands.fit id valid in
     let none = nothing_said map id fit no_entry in
     let same = (c.in-Err-Memory.ensures.memory (ap Err c.in-Err-Memory.field-0-is)).0 in
-    takes (cells id) (step_of stands id valid none c.args.stamp c.args.need memory (cells id) (omega arith) (inl (is_absent stands id valid none)))
+    takes (cells id) (step_of stands id valid none (room_of c.args.self.now) c.args.stamp c.args.need memory (cells id) (c.write_refusal.ensures.fits c.in_default.is) (inl (is_absent stands id valid none)))
     (λ e. absurd cc, λ e w. absurd (not_waiting _ (is_absent stands id valid none) w), λ e. inl refl, λ e. absurd cc)
     (λ known old. (
       stands_unchanged id old same c.in-Err-Memory.ensures.volumes c.make_room.ensures.books,
@@ -123,17 +120,17 @@ create-requires-2-clause-free g c =
     let id = c.args.id in
     let number = g.D.PoolDisks.next_number c.args.self.now.disks in
     subst (NoDraftAt (g.D.PoolDisks.worlds c.create.new.self) 1) (sym (c.as_str-2.ensures ∙ c.rbw_meta.ensures))
-    (start_free_meta c.requires.stands.1 id c.find.ensures.valid
-    (nothing_said c.args.self.now.map id (c.requires.stands.1.fit id c.find.ensures.valid) (sym c.find.ensures.value ∙ c.in_default.is)) _ 1 number c.args.stamp c.get-in_range.ensures.in_range
+    (start_free_meta c.requires.stands.1 id c.write_refusal.ensures.valid
+    (nothing_said c.args.self.now.map id (c.requires.stands.1.fit id c.write_refusal.ensures.valid) (c.write_refusal.ensures.none c.in_default.is)) _ 1 number c.args.stamp c.get-in_range.ensures.in_range
     (is_stamp-IsStamp c.args.stamp c.get-in_range.ensures.in_range)
-    (reaches_created_at id 1 WritingBlock number c.find.ensures.valid refl refl _ (c.as_str.ensures ∙ c.rbw_block.ensures) _ _ c.in-Ok-create.ensures.ok))
+    (reaches_created_at id 1 WritingBlock number c.write_refusal.ensures.valid refl refl _ (c.as_str.ensures ∙ c.rbw_block.ensures) _ _ c.in-Ok-create.ensures.ok))
 
 pub returns-in-Err-Failed-create-clause-step : goal.returns-in-Err-Failed-create-clause-step
 returns-in-Err-Failed-create-clause-step g c cells stands =
     let id = c.args.id in
     let map = c.args.self.now.map in
-    let valid = c.find.ensures.valid in
-    let no_entry = sym c.find.ensures.value ∙ c.in_default.is in
+    let valid = c.write_refusal.ensures.valid in
+    let no_entry = c.write_refusal.ensures.none c.in_default.is in
     let fit = stands.fit id valid in
     let none = nothing_said map id fit no_entry in
     let made = c.make_room.new.map in
@@ -148,7 +145,7 @@ returns-in-Err-Failed-create-clause-step g c cells stands =
     let step : View → View → Type 0 = Then one (λ before after. Fails before (create_in before 1 (WritingMeta c.args.stamp) m) after) in
     let reaches = reaches_then id _ _ _ _ _ first
     (reaches_create_at id 1 (WritingMeta c.args.stamp) m valid (is_stamp-IsStamp c.args.stamp stamped) refl _ (c.as_str-2.ensures ∙ c.rbw_meta.ensures) _ _ c.in-Err-Failed-create.ensures.worlds) in
-    takes waiting (step_of stands id valid none c.args.stamp c.args.need failed waiting (omega arith) (inr refl))
+    takes waiting (step_of stands id valid none (room_of c.args.self.now) c.args.stamp c.args.need failed waiting (c.write_refusal.ensures.fits c.in_default.is) (inr refl))
     (λ e. refl, λ e w. absurd cc, λ e. inr refl, λ e. absurd cc)
     (λ known old.
     let placed : IsVolume (g.D.PoolDisks.volume_count c.args.self.now.disks) 1 = (omega arith, old.some_volume) in
@@ -166,8 +163,8 @@ pub returns-in-Err-Memory-create-clause-step : goal.returns-in-Err-Memory-create
 returns-in-Err-Memory-create-clause-step g c cells stands =
     let id = c.args.id in
     let map = c.args.self.now.map in
-    let valid = c.find.ensures.valid in
-    let no_entry = sym c.find.ensures.value ∙ c.in_default.is in
+    let valid = c.write_refusal.ensures.valid in
+    let no_entry = c.write_refusal.ensures.none c.in_default.is in
     let fit = stands.fit id valid in
     let none = nothing_said map id fit no_entry in
     let made = c.make_room.new.map in
@@ -183,7 +180,7 @@ returns-in-Err-Memory-create-clause-step g c cells stands =
     let reaches = reaches_then id _ _ _ _ _ first (reaches_same id _ _ same.0) in
     let starts : (before after : View) → step before after → StartsWrite before None w after (books_of (Some (writer_entry w is_waiting)) (block_left w true ∷ []) None) waiting =
     λ before after stepped. subst (λ v. StartsWrite before None w v (books_of (Some (writer_entry w is_waiting)) (block_left w true ∷ []) None) waiting) (sym (stepped.2 ∙ stepped.1)) meta_memory in
-    takes waiting (step_of stands id valid none c.args.stamp c.args.need memory waiting (omega arith) (inr refl))
+    takes waiting (step_of stands id valid none (room_of c.args.self.now) c.args.stamp c.args.need memory waiting (c.write_refusal.ensures.fits c.in_default.is) (inr refl))
     (λ e. absurd cc, λ e w. omega (arith, same.1, c.in-Ok-create.ensures.number), λ e. inr refl, λ e. absurd cc)
     (λ known old.
     let placed : IsVolume (g.D.PoolDisks.volume_count c.args.self.now.disks) 1 = (omega arith, old.some_volume) in
@@ -200,8 +197,8 @@ pub returns-clause-step : goal.returns-clause-step
 returns-clause-step g c cells stands =
     let id = c.args.id in
     let map = c.args.self.now.map in
-    let valid = c.find.ensures.valid in
-    let no_entry = sym c.find.ensures.value ∙ c.in_default.is in
+    let valid = c.write_refusal.ensures.valid in
+    let no_entry = c.write_refusal.ensures.none c.in_default.is in
     let fit = stands.fit id valid in
     let none = nothing_said map id fit no_entry in
     let made = c.make_room.new.map in
@@ -221,7 +218,7 @@ returns-clause-step g c cells stands =
     ∙ ap (λ n. books_with (Some (grown n c.number-2.result)) (Some entry) []) is_b ∙ ap (λ n. books_with (Some (grown b n)) (Some entry) []) is_m) in
     let reaches = reaches_then id _ _ _ _ _ first
     (reaches_created_at id 1 (WritingMeta c.args.stamp) m valid (is_stamp-IsStamp c.args.stamp stamped) refl _ (c.as_str-2.ensures ∙ c.rbw_meta.ensures) _ _ c.in-Ok-create-2.ensures.ok) in
-    takes (growing c.args.stamp None [] c.args.need) (step_of stands id valid none c.args.stamp c.args.need done (growing c.args.stamp None [] c.args.need) (omega arith) (refl, refl))
+    takes (growing c.args.stamp None [] c.args.need) (step_of stands id valid none (room_of c.args.self.now) c.args.stamp c.args.need done (growing c.args.stamp None [] c.args.need) (c.write_refusal.ensures.fits c.in_default.is) (refl, refl))
     (λ e. absurd cc, λ e w. absurd cc, λ e. absurd cc, λ e. refl)
     (λ known old.
     let placed : IsVolume (g.D.PoolDisks.volume_count c.args.self.now.disks) 1 = (omega arith, old.some_volume) in
@@ -236,7 +233,7 @@ pub returns-clause-writer : goal.returns-clause-writer
 returns-clause-writer g c =
     let id = c.args.id in
     let map = c.args.self.now.map in
-    let none = nothing_said map id (c.requires.stands.1.fit id c.find.ensures.valid) (sym c.find.ensures.value ∙ c.in_default.is) in
+    let none = nothing_said map id (c.requires.stands.1.fit id c.write_refusal.ensures.valid) (c.write_refusal.ensures.none c.in_default.is) in
     let none_left = ap (λ (b : BlockBooks). b.leftovers) (c.make_room.ensures.books id ∙ none) in
     let b = g.D.PoolDisks.next_number c.args.self.now.disks in
     let m = g.D.PoolDisks.next_number c.create.new.self in
@@ -247,7 +244,7 @@ returns-clause-writer g c =
     let here : block_books c.add_writer.new.map id ≡ written_books None [] None (writer_at c.args.stamp 1 c.args.need 0 b m) = c.add_writer.ensures.books id
     ∙ rw (eq-eqb id id refl) (ap (λ l. books_with (Some (grown c.number.result c.number-2.result)) (Some entry) l) none_left
     ∙ ap (λ n. books_with (Some (grown n c.number-2.result)) (Some entry) []) is_b ∙ ap (λ n. books_with (Some (grown b n)) (Some entry) []) is_m) in
-    started_stands (writer_of g.D.Draft.Draft.place g.D.Draft.Draft.bytes c.new.result) id c.args.stamp 1 c.args.need b m c.find.ensures.valid c.get-in_range.ensures.in_range
+    started_stands (writer_of g.D.Draft.Draft.place g.D.Draft.Draft.bytes c.new.result) id c.args.stamp 1 c.args.need b m c.write_refusal.ensures.valid c.get-in_range.ensures.in_range
     c.new.ensures.id c.new.ensures.stamp c.new.ensures.vol c.new.ensures.reserved here
     (ap g.D.Draft.Draft.place c.new.ensures.block ∙ c.in-Ok-create.ensures.place ∙ ap (λ p. draft_at b 1 p) (c.as_str.ensures ∙ c.rbw_block.ensures))
     (ap (option_map g.D.Draft.Draft.place) c.new.ensures.meta ∙ ap Some (c.in-Ok-create-2.ensures.place ∙ ap (λ p. draft_at m 1 p) (c.as_str-2.ensures ∙ c.rbw_meta.ensures)))
@@ -272,3 +269,46 @@ pub returns-clause-goes_on : goal.returns-clause-goes_on
 returns-clause-goes_on g c = went_then g.D.PoolDisks _ _ _
     (went_call g.D.PoolDisks (g.met.D.PoolDisks.counts_now _) c.in-Ok-create.ensures.time c.in-Ok-create.ensures.worlds.honest c.in-Ok-create.ensures.cause.later c.in-Ok-create.ensures.absences c.in-Ok-create.ensures.numbers.later c.in-Ok-create.ensures.volumes)
     (went_call g.D.PoolDisks (g.met.D.PoolDisks.counts_now _) c.in-Ok-create-2.ensures.time c.in-Ok-create-2.ensures.worlds.honest c.in-Ok-create-2.ensures.cause.later c.in-Ok-create-2.ensures.absences c.in-Ok-create-2.ensures.numbers.later c.in-Ok-create-2.ensures.volumes)
+
+pub returns-in-Err-Failed-clause-books : goal.returns-in-Err-Failed-clause-books
+returns-in-Err-Failed-clause-books g c =
+    let id = c.args.id in
+    let map = c.args.self.now.map in
+    let none = nothing_said map id (c.requires.stands.1.fit id c.write_refusal.ensures.valid) (c.write_refusal.ensures.none c.in_default.is) in
+    let waiting_entry : Entry = record { id = id; stamp = c.args.stamp; len = c.args.need; vol = 1; rev = 0; state = Waiting } in
+    inl (become_alone c.make_room.new.map c.add_half_created.new.map (λ l. with_leftover (held_block waiting_entry) (books_with None (Some waiting_entry) l)) refl c.add_half_created.ensures.books
+    (ap (λ (b : BlockBooks). b.leftovers) (c.make_room.ensures.books id ∙ none)))
+
+pub returns-in-Err-Memory-clause-books : goal.returns-in-Err-Memory-clause-books
+returns-in-Err-Memory-clause-books g c = inl (c.make_room.ensures.books c.args.id)
+
+pub returns-in-Err-Failed-create-clause-books : goal.returns-in-Err-Failed-create-clause-books
+returns-in-Err-Failed-create-clause-books g c =
+    let id = c.args.id in
+    let map = c.args.self.now.map in
+    let none = nothing_said map id (c.requires.stands.1.fit id c.write_refusal.ensures.valid) (c.write_refusal.ensures.none c.in_default.is) in
+    let waiting_entry : Entry = record { id = id; stamp = c.args.stamp; len = c.args.need; vol = 1; rev = 0; state = Waiting } in
+    inr (become_alone c.make_room.new.map c.add_created.new.map (λ l. with_leftover (held_meta waiting_entry) (with_leftover (held_block waiting_entry) (books_with None (Some waiting_entry) l))) refl c.add_created.ensures.books
+    (ap (λ (b : BlockBooks). b.leftovers) (c.make_room.ensures.books id ∙ none)))
+
+pub returns-in-Err-Memory-create-clause-books : goal.returns-in-Err-Memory-create-clause-books
+returns-in-Err-Memory-create-clause-books g c =
+    let id = c.args.id in
+    let map = c.args.self.now.map in
+    let none = nothing_said map id (c.requires.stands.1.fit id c.write_refusal.ensures.valid) (c.write_refusal.ensures.none c.in_default.is) in
+    let waiting_entry : Entry = record { id = id; stamp = c.args.stamp; len = c.args.need; vol = 1; rev = 0; state = Waiting } in
+    inr (become_alone c.make_room.new.map c.add_half_created-in-Err-Memory-create.new.map (λ l. with_leftover (held_block waiting_entry) (books_with None (Some waiting_entry) l)) refl c.add_half_created-in-Err-Memory-create.ensures.books
+    (ap (λ (b : BlockBooks). b.leftovers) (c.make_room.ensures.books id ∙ none)))
+
+pub returns-clause-books : goal.returns-clause-books
+returns-clause-books g c =
+    let id = c.args.id in
+    let map = c.args.self.now.map in
+    let none = nothing_said map id (c.requires.stands.1.fit id c.write_refusal.ensures.valid) (c.write_refusal.ensures.none c.in_default.is) in
+    let entry : Entry = record { id = id; stamp = c.args.stamp; len = c.args.need; vol = 1; rev = 0; state = Writing } in
+    let grown : Grown = record { base = None; reserved = c.args.need; block_no = c.number.result; meta_no = c.number-2.result } in (
+      c.number.result,
+      c.number-2.result,
+      become_alone c.make_room.new.map c.add_writer.new.map (λ l. books_with (Some grown) (Some entry) l) refl c.add_writer.ensures.books
+          (ap (λ (b : BlockBooks). b.leftovers) (c.make_room.ensures.books id ∙ none)),
+    )
