@@ -1,6 +1,5 @@
 -- How the end of a write follows from the tenure that ends it.
-use Rattle.std.proofs.Common.{◌≡◌, ◌<◌, ◌^◌, inl, inr, ℕ, List, length, Option, None, Some, Result, Ok, Err, refl, sym, ◌∙◌, ap, subst, arith}
-use Rattle.std.proofs.lemmas.Bool.Decides.{nat_tests}
+use Rattle.std.proofs.Common.{◌≡◌, inl, inr, ℕ, List, Option, None, Some, Result, Ok, Err, refl, sym, ◌∙◌, ap, subst}
 use Rattle.disk_model.specs.Files.{Files}
 use Rattle.disk_model.specs.declared.disks.PoolDisks.{Ghosts}
 use Rattle.disk_model.specs.declared.disks.Draft as drafts
@@ -9,12 +8,12 @@ use Rattle.disk_model.specs.declared.disks.Reader as readers
 use Rattle.disk_model.specs.Worlds.{World, DraftPlace}
 use Rattle.map_model.specs.Cells.{Cell, Cells, absent}
 use Rattle.map_model.specs.Sound.{Knowledge, learned}
-use Rattle.map_model.specs.Steps.{Command, Reply, CarriedOut, write, write_refusal}
+use Rattle.map_model.specs.Steps.{Command, Reply, Room, CarriedOut, write}
 use Rattle.map_model.specs.Stands.{BlockBooks}
 use Rattle.pool_state.specs.declared.pool_record.Pool.{Pool}
 use Rattle.pair_draft.specs.Writers.{Pair}
 use Rattle.pool_state.specs.Writers.{PairStands, meta_of}
-use Rattle.pool_state.specs.Answers.{unlimited, TakesStep}
+use Rattle.pool_state.specs.Answers.{TakesStep}
 use Rattle.pool_state.specs.Tenures.{TakesLearning, KeepsWhole}
 use Rattle.client_ops.specs.declared.writing.FillFault.{FillFault}
 use Rattle.client_ops.specs.declared.writing.FillFault.TheVariants.{Failed as FillFailed, Memory as FillMemory}
@@ -32,9 +31,9 @@ pub same_fault : {X E : Type 0} (one other : E) → ◌≡◌ {A = Result X E} (
 same_fault one other same = ap (fault_of one) same
 
 -- more is known of the cell that a tenure leaves
-pub says_else : {id : ℕ} {command : Command} {answer : Reply} {SaysOf Other : Cell → Type 0} {cells : Cells} {Stood StandsFor : Knowledge → Cells → Type 0} {past since : ℕ → Files → Type 0} →
-    {Whole : Type 0} → TakesStep id command answer SaysOf cells Stood StandsFor past since × Whole → ((cell : Cell) → SaysOf cell → Other cell) →
-    TakesStep id command answer Other cells Stood StandsFor past since × Whole
+pub says_else : {room : Room} {id : ℕ} {command : Command} {answer : Reply} {SaysOf Other : Cell → Type 0} {cells : Cells} {Stood StandsFor : Knowledge → Cells → Type 0} {past since : ℕ → Files → Type 0} →
+    {Whole : Type 0} → TakesStep room id command answer SaysOf cells Stood StandsFor past since × Whole → ((cell : Cell) → SaysOf cell → Other cell) →
+    TakesStep room id command answer Other cells Stood StandsFor past since × Whole
 says_else (step, whole) more = (
   record {
     to = record { cell = step.to.cell; step = step.to.step; says = more step.to.cell step.to.says; stands = step.to.stands };
@@ -80,10 +79,6 @@ sealed_learns {p = p} {id = id} there = (
   ap (λ n. learned n p.stamp (meta_of there.2)) there.0 ∙ ap (λ s. learned id s (meta_of there.2)) there.1,
 )
 
--- no length is refused
-free_write : (len : ℕ) → len < 2 ^ 64 → write_refusal unlimited absent len ≡ None
-free_write len fits = grind (arith, nat_tests)
-
 carried : (fault : Option FillFault) (reply : OpReply) (stamp : ℕ) (bytes : List ℕ) (cell : Cell) → EndLeaves fault reply stamp bytes cell → CarriedOut absent (write stamp bytes) (op_answer reply) cell
 carried None EndsOk stamp bytes cell leaves = (refl, ap Some (sym leaves))
 carried None EndsFailed stamp bytes cell leaves = inr (inr leaves)
@@ -92,4 +87,4 @@ carried (Some FillFailed) reply stamp bytes cell leaves = subst (λ r. CarriedOu
 carried (Some FillMemory) reply stamp bytes cell leaves = subst (λ r. CarriedOut absent (write stamp bytes) (op_answer r) cell) (sym leaves.0) leaves.1
 
 pub ends_as_write : EndsAsWrite
-ends_as_write fault reply stamp bytes cell fits leaves = rw (free_write (length bytes) fits) (carried fault reply stamp bytes cell leaves)
+ends_as_write room fault reply stamp bytes cell fits leaves = rw fits (carried fault reply stamp bytes cell leaves)

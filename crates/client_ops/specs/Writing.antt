@@ -1,5 +1,5 @@
 -- A write as a whole: what became of its bytes, and what its end leaves.
-use Rattle.std.specs.Prelude.{ℕ, ◌≡◌, ◌⊎◌, ◌<◌, ◌^◌, false, List, length, Option, None, Some}
+use Rattle.std.specs.Prelude.{ℕ, ◌≡◌, ◌⊎◌, false, List, length, Option, None, Some}
 use Rattle.disk_model.specs.declared.disks.PoolDisks.{Ghosts}
 use Rattle.disk_model.specs.declared.disks.Draft as drafts
 use Rattle.disk_model.specs.declared.disks.SealedDraft as sealed
@@ -7,13 +7,13 @@ use Rattle.disk_model.specs.declared.disks.Reader as readers
 use Rattle.disk_model.specs.Worlds.{World, DraftPlace}
 use Rattle.map_model.specs.Cells.{Replica, Cell, Cells, absent, final, unsure, waiting}
 use Rattle.map_model.specs.Sound.{Knowledge, Verifies, learned}
-use Rattle.map_model.specs.Steps.{Command, Reply, Step, write, done, failed, memory}
+use Rattle.map_model.specs.Steps.{Command, Reply, Room, Step, write, write_refusal, done, failed, memory}
 use Rattle.pair_draft.specs.declared.writer.Writing.{Writing}
 use Rattle.pair_draft.specs.Writers.{writer_of, pair_of}
-use Rattle.map_model.specs.Stands.{BlockBooks}
+use Rattle.map_model.specs.Stands.{in_doubt, BlockBooks}
 use Rattle.pool_state.specs.declared.pool_record.Pool.{Pool}
-use Rattle.pool_state.specs.Answers.{unlimited}
 use Rattle.pool_state.specs.Books.{block_books}
+use Rattle.pool_state.specs.BookSteps.{no_books, in_state, with_replica, given_up, given_up_meta}
 use Rattle.pool_state.specs.Tenures.{TakesLearning}
 use Rattle.pool_state.specs.Writers.{WriterBelongs, PairStands}
 use Rattle.client_ops.specs.declared.writing.Op.{Op}
@@ -61,10 +61,18 @@ EndLeaves None EndsMemory stamp bytes cell = ⊥
 EndLeaves (Some FillFailed) reply stamp bytes cell = (reply ≡ EndsFailed) × (cell ≡ waiting)
 EndLeaves (Some FillMemory) reply stamp bytes cell = (reply ≡ EndsMemory) × ((cell ≡ absent) ⊎ (cell ≡ waiting))
 
--- which a whole write of an absent block leaves
+-- what the end of a write of so many bytes leaves of what the books say of its block
+abbrev pub BooksEnded : Option FillFault → OpReply → (len : ℕ) → (old new : BlockBooks) → Type 0
+BooksEnded None EndsOk len old new = new ≡ with_replica len old
+BooksEnded None EndsFailed len old new = new ≡ in_state (in_doubt None) old
+BooksEnded None EndsMemory len old new = ⊥
+BooksEnded (Some FillFailed) reply len old new = new ≡ given_up old
+BooksEnded (Some FillMemory) reply len old new = (new ≡ no_books) ⊎ ((new ≡ given_up old) ⊎ (new ≡ given_up_meta old))
+
+-- which a whole write of an absent block leaves, for which there is room
 abbrev pub EndsAsWrite : Type 0
-EndsAsWrite = (fault : Option FillFault) (reply : OpReply) (stamp : ℕ) (bytes : List ℕ) (cell : Cell) → length bytes < 2 ^ 64 →
-    EndLeaves fault reply stamp bytes cell → Step unlimited absent (write stamp bytes) (op_answer reply) cell
+EndsAsWrite = (room : Room) (fault : Option FillFault) (reply : OpReply) (stamp : ℕ) (bytes : List ℕ) (cell : Cell) →
+    write_refusal room absent (length bytes) ≡ None → EndLeaves fault reply stamp bytes cell → Step room absent (write stamp bytes) (op_answer reply) cell
 
 -- what more is known of meta files after the end of a write of this replica: of one whose bytes were made sure of, its own, which matches
 abbrev pub EndLearns : Option FillFault → (id : ℕ) → Replica → (Knowledge → Knowledge) → Type 0

@@ -1,19 +1,19 @@
 //! A write as a whole, in three calls: its start and its end are tenures of the pool, and between them its bytes are written
 //! without the pool.
-ghost use Rattle.std.specs.Prelude.{◌≡◌, ◌≢◌, ◌-◌, ◌<◌, ℕ, [], List, None, Some, IfOk, IfSome, IsErrOf, IsTrue, Option, Err, is_some};
+ghost use Rattle.std.specs.Prelude.{◌≡◌, ◌≢◌, ◌-◌, ◌<◌, ℕ, [], List, None, Some, IfOk, IfSome, IsErrOf, IsTrue, Option, Err, is_some, length};
 ghost use Rattle.disk_model.specs.Causes.{Rose};
 ghost use Rattle.disk_model.specs.Worlds.{World};
 ghost use Rattle.disk_model.specs.Marks.{GoesOn};
 ghost use Rattle.map_model.specs.Cells.{Cells, growing};
 ghost use Rattle.map_model.specs.Sound.{nothing};
-ghost use Rattle.map_model.specs.Steps.{start_write};
 ghost use Rattle.pair_draft.specs.Writers.{writer_of, FailedOf};
 ghost use Rattle.map_model.specs.Stands.{BlockBooks};
 ghost use Rattle.pool_state.specs.Books.{block_books};
+ghost use Rattle.pool_state.specs.BookSteps.{BooksStarted};
 ghost use Rattle.pool_state.specs.Stands.{Stands, StandsForSome};
 ghost use Rattle.pool_state.specs.Tenures.{KeepsWhole, Starts, IsWriterOf, GivesNumber};
 ghost use Rattle.pool_state.specs.Writers.{WriterStands};
-ghost use Rattle.client_ops.specs.Writing.{op_writer, fill_fault, FillStands, EndsWrite, EndsAsWrite, FilledBelongs};
+ghost use Rattle.client_ops.specs.Writing.{op_writer, fill_fault, BooksEnded, FillStands, EndsWrite, EndsAsWrite, FilledBelongs};
 
 use disk_model::PoolDisks;
 use pool_state::{Pool, PushFault, SealFault, SealedPair, StartFault, Writing};
@@ -56,7 +56,7 @@ pub enum OpReply {
     Memory,
 }
 
-/// A write, answered so by its end, is one step of a block that was absent.
+/// A write for which there is room, answered so by its end, is one step of a block that was absent.
 pub fn write_is_one_step()
     ensures { EndsAsWrite }
 {}
@@ -73,11 +73,13 @@ pub fn write_start<D: PoolDisks>(
     ensures step { (cells : Cells) → Stands pool.old nothing cells →
         Starts id stamp len result cells pool.old pool.new × KeepsWhole pool.old pool.new }
     ensures others { (other : ℕ) → other ≢ id → block_books pool.new.map other ≡ block_books pool.old.map other }
+    ensures books { BooksStarted result stamp len (block_books pool.old.map id) (block_books pool.new.map id) }
     ensures writer { IfOk result (λ op. IsWriterOf pool.new (op_writer op) []) }
     ensures what { IfOk result (λ op. ((op_writer op).id ≡ id) × ((op_writer op).stamp ≡ stamp) × ((op_writer op).reserved ≡ len)) }
     ensures numbers { IfOk result (λ op. GivesNumber pool.old pool.new (D.Draft.place (op_writer op).block).number) }
     ensures meta_numbers { IfOk result (λ op. IfSome (op_writer op).meta (λ meta. GivesNumber pool.old pool.new (D.Draft.place meta).number)) }
     ensures goes_on { GoesOn D.PoolDisks pool.old.disks pool.new.disks }
+    ensures shares { pool.new.shares ≡ pool.old.shares }
     ensures failed { IsErrOf result StartFault.Failed → Rose (D.faults pool.old.disks) (D.faults pool.new.disks) }
 {
     match pool.start_write(alloc, id, stamp, len) {
@@ -134,7 +136,10 @@ pub fn op_end<D: PoolDisks>(pool: &mut Pool<D>, filled: Filled<D>) -> OpReply
         EndsWrite id stamp bytes (fill_fault filled) result cells pool.old pool.new × KeepsWhole pool.old pool.new }
     ensures others { (id stamp : ℕ) (bytes : List ℕ) → FilledBelongs pool.old id stamp bytes filled →
         (other : ℕ) → other ≢ id → block_books pool.new.map other ≡ block_books pool.old.map other }
+    ensures books { (id stamp : ℕ) (bytes : List ℕ) → FilledBelongs pool.old id stamp bytes filled →
+        BooksEnded (fill_fault filled) result (length bytes) (block_books pool.old.map id) (block_books pool.new.map id) }
     ensures goes_on { GoesOn D.PoolDisks pool.old.disks pool.new.disks }
+    ensures shares { pool.new.shares ≡ pool.old.shares }
     ensures failed { result ≡ OpReply.Failed → fill_fault filled ≡ None → Rose (D.faults pool.old.disks) (D.faults pool.new.disks) }
 {
     match filled {

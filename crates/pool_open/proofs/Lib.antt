@@ -8,6 +8,7 @@ pub mod Rows
 pub mod Greatest
 pub mod Planned
 pub mod Shown
+pub mod Waits
 pub mod Opened
 pub mod Opens
 pub mod Ending

@@ -12,7 +12,7 @@ use Rattle.disk_model.specs.Moments.{AddsOnly}
 use Rattle.disk_model.proofs.Laws.{from_done, some_world, only_one, told_list, is_told}
 use Rattle.volume_layout.specs.Paths.{IsBlockId, block_path}
 use Rattle.map_model.specs.World.{DraftsAside}
-use Rattle.map_model.specs.Cells.{Replica, Cells}
+use Rattle.map_model.specs.Cells.{Replica, Cells, waiting}
 use Rattle.map_model.specs.Copies.{Spot, BlockFiles, IsCopy, IsAlone, IsGreatestCopy, ReadsAs, OneWhole}
 use Rattle.map_model.specs.Openings.{shown_files, MakesCell, ReadsAlike}
 use Rattle.map_model.specs.Sound.{Metas, Knowledge, matching, exactly, Fits, HasSoundCopies, IsSound}
@@ -36,11 +36,13 @@ use Rattle.pool_open.specs.declared.outcome.Outcome.{Outcome}
 use Rattle.pool_open.specs.Plan.{outcome_of, kept_files}
 use Rattle.pool_open.specs.Found.{entry_of, IsSizeOf, IsFinalEntry, IsWaitingEntry, SaysNothing, SaysOutcome, SaysFound}
 use Rattle.pool_open.specs.Clearing.{Clears, AreClear, ComesCleared, LeftCleared}
+use Rattle.pool_open.specs.Waiting.{WaitsAs}
 use Rattle.pool_open.specs.Outcome.{HasFiles, HasSoundFiles, IsOpened, ReadsBack, Opens}
 use Rattle.pool_open.proofs.Removals.{clears_none}
 use Rattle.pool_open.proofs.Shown.{shown_view, world_reads}
 use Rattle.pool_open.proofs.Slots.{replica_of, each_kept}
 use Rattle.pool_open.proofs.Blocks.{MakesFinal, outcome_cases, Partly, slot_bytes, read_by, read_of, reads_partly, alone_partly, sound_partly, cell_in, cell_of, made_cell}
+use Rattle.pool_open.proofs.Waits.{found_waits}
 use Rattle.pool_open.proofs.Opened.{IsTable, IsSurveyed, plan_of, partly, block_stands}
 
 -- the bytes of a block file, where the disks tell one world; else some of that length
@@ -327,6 +329,11 @@ module _ (survey : Survey) (before first second after : Option (List World)) (vo
       (made_cell second id (books id) (cell_bytes id) (view_of was id) (found_of survey.blocks id)
       (partly survey opening.table was was (surveyed was is) (clears_none (plan_of survey) was) id valid) (bytes_here was is id) (opening.says id))
 
+  -- the books of a block that waits are by the files that stand
+  waits_here : (was : World) → IsWorldOf second was → (id : ℕ) → IsBlockId id → cells_are id ≡ waiting → WaitsAs (view_of was id) (books id)
+  waits_here was is id valid waits =
+      found_waits was id second is (found_of survey.blocks id) (books id) (cell_bytes id) ((surveyed was is).exact.blocks id valid) (opening.table.blocks.writing_metas id) (opening.says id) waits
+
   -- what may be left meanwhile reads as the world that was shown
   pub meanwhile_reads : (was : World) → IsWorldOf second was → (image : Files) → CanLeave first image ⊎ LeftCleared (plan_of survey) second image → ReadsAlike (shown_files was) image
   meanwhile_reads was is image (inl leaves) =
@@ -352,6 +359,7 @@ module _ (survey : Survey) (before first second after : Option (List World)) (vo
           is = in_before was.0 was.1;
           made = λ id valid. made_here was.0 was.1 id valid;
           metas_are = metas_here was.0 was.1;
+          waiting = λ id valid waits. waits_here was.0 was.1 id valid waits;
           images = λ t image left. elim (images t image left) [ inl earlier ↦ inl earlier | inr meanwhile ↦ inr (meanwhile_reads was.0 was.1 image meanwhile) ];
         };
     whole = λ image leaves.

@@ -3,4 +3,5 @@ pub mod Plan
 pub mod Looking
 pub mod Clearing
 pub mod Found
+pub mod Waiting
 pub mod Outcome

@@ -13,11 +13,13 @@ use Rattle.map_model.specs.Cells.{Replica, Cell, Cells, absent, final, waiting}
 use Rattle.map_model.specs.Copies.{Spot, IsCopy, IsAlone, OneWhole}
 use Rattle.map_model.specs.Openings.{MakesCells, shown_files, ReadsAlike}
 use Rattle.map_model.specs.Sound.{Metas, Knowledge, matching, exactly, Fits, HasSoundCopies, IsSound}
+use Rattle.map_model.specs.Slots.{view_of}
 use Rattle.map_model.specs.Stands.{BlockBooks}
 use Rattle.pool_state.specs.declared.pool_record.Pool.{Pool}
 use Rattle.pool_state.specs.Stands.{PoolStands}
 use Rattle.pool_open.specs.declared.opening.OpenFault.{OpenFault}
 use Rattle.pool_open.specs.declared.opening.OpenFault.TheVariants.{Failed, Memory, Later}
+use Rattle.pool_open.specs.Waiting.{WaitsAs}
 
 -- the disks tell that they hold this image, without drafts
 abbrev pub HoldsImage : Option (List World) → Files → Type 0
@@ -68,13 +70,14 @@ pub record ReadsBack (world : World) (image : Files) : Type 0 where
 abbrev pub ReadsAsOne : Option (List World) → Files → Type 0
 ReadsAsOne told image = (world : World) × IsWorldOf told world × ReadsBack world image
 
--- The cells are those of a world that was told, and so are the meta files: it was shown, and every image that a crash could leave
--- since reads as it does.
-pub record Shows (told : Option (List World)) (cells : Cells) (metas : Metas) (past since : ℕ → Files → Type 0) : Type 0 where
+-- The cells are those of a world that was told, and so are the meta files, and the books of the blocks that wait: it was shown,
+-- and every image that a crash could leave since reads as it does.
+pub record Shows (told : Option (List World)) (cells : Cells) (metas : Metas) (books : ℕ → BlockBooks) (past since : ℕ → Files → Type 0) : Type 0 where
   pub world : World
   pub is : IsWorldOf told world
   pub made : MakesCells (shown_files world) cells
   pub metas_are : HasFiles (exactly metas) world
+  pub waiting : (id : ℕ) → IsBlockId id → cells id ≡ waiting → WaitsAs (view_of world id) (books id)
   pub images : AddsOnly past since (ReadsAlike (shown_files world))
 
 -- no writer is open, and nothing is in doubt
@@ -82,13 +85,13 @@ abbrev pub IsOpened : Cell → Type 0
 IsOpened cell = (cell ≡ absent) ⊎ (((replica : Replica) × (cell ≡ final replica)) ⊎ (cell ≡ waiting))
 
 -- AN OPENING: disks that told some worlds before it and tell others after it, and books which stand for cells. Where the disks
--- tell, those are the cells of one world, and the meta files are its own; what else is known of all worlds' meta files, is known
--- by the pool. Each block has one whole copy at most.
+-- tell, those are the cells of one world, and the meta files and the books of the blocks that wait are its own; what else is
+-- known of all worlds' meta files, is known by the pool. Each block has one whole copy at most.
 pub record Opens (before after : Option (List World)) (volumes : ℕ) (books : ℕ → BlockBooks) (past since : ℕ → Files → Type 0) : Type 0 where
   pub cells : Cells
   pub metas : Metas
   pub stands : PoolStands after volumes books (exactly metas) cells
   pub stands_by : (known : Knowledge) → InEachWorld before (HasFiles known) → PoolStands after volumes books known cells
   pub opened : (id : ℕ) → IsBlockId id → IsOpened (cells id)
-  pub shown : IsSome before → Shows before cells metas past since
+  pub shown : IsSome before → Shows before cells metas books past since
   pub whole : (image : Files) → CanLeave after image → OneWhole image

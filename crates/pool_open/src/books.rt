@@ -248,6 +248,7 @@ pub fn make_books<D: PoolDisks>(
     requires blocks { AreBlocks blocks.now }
     ensures says { IfOk result (λ books. (id : ℕ) → SaysFound (D.worlds disks.new) id (found_of blocks.now id) (block_books books id)) }
     ensures idle { IfOk result (λ books. writers books ≡ 0) }
+    ensures no_moves { IfOk result (λ books. books.tickets ≡ []) }
     ensures looks { OnlyLooks D.PoolDisks disks.old disks.new }
     ensures failed { IsErrOf result DiskError.Failed → Rose (D.faults disks.old) (D.faults disks.new) }
 {

@@ -1,5 +1,5 @@
 //! The opening of a pool.
-ghost use Rattle.std.specs.Prelude.{◌≡◌, Some, Err, IfOk, IsOk, OnOk, IsErrOf};
+ghost use Rattle.std.specs.Prelude.{◌≡◌, Some, Err, IfOk, IsOk, OnOk, IsErrOf, length};
 ghost use Rattle.disk_model.specs.Causes.{Rose};
 ghost use Rattle.disk_model.specs.Files.{Files};
 ghost use Rattle.disk_model.specs.Moments.{AddsOnly};
@@ -41,10 +41,16 @@ pub enum ReopenFault {
     Later,
 }
 
-/// Opens the pool of these disks, as `reopen_pool` does.
-pub fn open_pool<D: PoolDisks>(alloc: Global, disks: D) -> Result<Pool<D>, OpenFault<D>>
+/// Opens the pool of these disks, which may use so many bytes on each volume, as `reopen_pool` does.
+pub fn open_pool<D: PoolDisks>(
+    alloc: Global,
+    disks: D,
+    shares: Vec<u64>,
+) -> Result<Pool<D>, OpenFault<D>>
     requires aside { InEachWorld (D.worlds disks) DraftsAside }
     requires one_volume { D.volume_count disks ≡ 1 }
+    requires shares { length shares.items ≡ D.volume_count disks }
+    ensures shares { IfOk result (λ pool. pool.shares ≡ shares) }
     ensures opened { IfOk result (λ pool. Opens (D.worlds disks) (D.worlds pool.disks) (D.volume_count pool.disks)
         (block_books pool.map) (D.left_since disks) (D.left_since pool.disks)) }
     ensures images { AddsOnly (D.left_since disks) (D.left_since (disks_of result)) (ReadsAsOne (D.worlds disks)) }
@@ -58,6 +64,7 @@ pub fn open_pool<D: PoolDisks>(alloc: Global, disks: D) -> Result<Pool<D>, OpenF
     let mut pool = Pool {
         disks,
         map: ReplicaMap::make(alloc),
+        shares,
     };
     match reopen_pool(alloc, &mut pool) {
         Ok(()) => Ok(pool),
@@ -77,6 +84,7 @@ pub fn open_pool<D: PoolDisks>(alloc: Global, disks: D) -> Result<Pool<D>, OpenF
 pub fn reopen_pool<D: PoolDisks>(alloc: Global, pool: &mut Pool<D>) -> Result<(), ReopenFault>
     requires aside { InEachWorld (D.worlds pool.old.disks) DraftsAside }
     requires one_volume { D.volume_count pool.old.disks ≡ 1 }
+    ensures shares { pool.new.shares ≡ pool.old.shares }
     ensures opened { OnOk result (Opens (D.worlds pool.old.disks) (D.worlds pool.new.disks) (D.volume_count pool.new.disks)
         (block_books pool.new.map) (D.left_since pool.old.disks) (D.left_since pool.new.disks)) }
     ensures images { AddsOnly (D.left_since pool.old.disks) (D.left_since pool.new.disks) (ReadsAsOne (D.worlds pool.old.disks)) }

@@ -46,7 +46,10 @@ fn opened<D: PoolDisks>(alloc: Global, disks: D) -> Answer
     requires aside { InEachWorld (D.worlds disks) DraftsAside }
     requires one_volume { D.volume_count disks ≡ 1 }
 {
-    match open_pool(alloc, disks) {
+    let Ok(shares) = vec![in alloc; 1 << 50] else {
+        return Answer::Memory;
+    };
+    match open_pool(alloc, disks, shares) {
         Ok(pool) => Opened(pool.map.entry_count(), pool.map.leftover_count()),
         Err(OpenFault::Failed(_)) => Answer::Failed,
         Err(OpenFault::Memory(_)) => Answer::Memory,
