@@ -10,6 +10,7 @@ use Rattle.map_model.specs.Steps.{start_write, push, finish, drop_write, write, 
 use Rattle.pool_open.specs.Outcome.{IsOpened}
 use Rattle.disk_model.specs.Marks.{Mark, IsLater}
 use Rattle.run_model.specs.State.{RunState, Turn}
+use Rattle.run_model.specs.Books.{BooksOpened}
 use Rattle.run_model.specs.Commands.{Trust, any_disks, telling_disks, sound_disks, CommandStep}
 
 -- what closing the pool and opening it again leaves of its cells: no writer is open, and where the disks tell, each
@@ -25,6 +26,8 @@ pub record Reopens (trust : Trust) (old : RunState) (reply : Reply) (new : RunSt
   pub cells : CellsReopened trust old.cells new.cells
   pub metas : new.metas ≡ old.metas
   pub writers : (id : ℕ) → new.writers id ≡ old.writers id
+  pub shares : new.shares ≡ old.shares
+  pub books : (id : ℕ) → IsBlockId id → BooksOpened (new.cells id) (new.books id)
 
 -- what each line does that is carried out
 abbrev pub Does : Trust → (ℕ → ℕ → Type 0) → RunState → Mark → Line → Reply → RunState → Mark → Type 0

@@ -8,7 +8,7 @@ use Rattle.map_model.specs.Cells.{Cell, Cells, absent, growing}
 use Rattle.map_model.specs.Allows.{AllowsFiles, AllowsImage}
 use Rattle.map_model.specs.Copies.{BlockFiles, block_files, OneWhole}
 use Rattle.map_model.specs.Sound.{Knowledge, matching, IsSound}
-use Rattle.map_model.specs.Steps.{Command, Reply as Answer}
+use Rattle.map_model.specs.Steps.{Command, Room, Reply as Answer}
 use Rattle.pool_state.specs.Answers.{StepsTo, TakesStep}
 use Rattle.pool_state.specs.Stands.{with_cell}
 use Rattle.run_model.specs.Images.{CrashSafe}
@@ -42,8 +42,8 @@ still_absent cells id cell stamp left bytes image was is allows other valid = el
 ]
 
 -- after the start
-pub grows_started : {id : ℕ} {command : Command} {answer : Answer} {SaysOf : Cell → Type 0} {cells : Cells} {Stood StandsFor : Knowledge → Cells → Type 0} {past since : ℕ → Files → Type 0}
-    (start : TakesStep id command answer SaysOf cells Stood StandsFor past since) → AddsOnly past since OneWhole → (stamp left : ℕ) → cells id ≡ absent → start.to.cell ≡ growing stamp None [] left →
+pub grows_started : {room : Room} {id : ℕ} {command : Command} {answer : Answer} {SaysOf : Cell → Type 0} {cells : Cells} {Stood StandsFor : Knowledge → Cells → Type 0} {past since : ℕ → Files → Type 0}
+    (start : TakesStep room id command answer SaysOf cells Stood StandsFor past since) → AddsOnly past since OneWhole → (stamp left : ℕ) → cells id ≡ absent → start.to.cell ≡ growing stamp None [] left →
     Grows id cells start.to.cell Stood StandsFor past since
 grows_started {id} {cells = cells} start whole stamp left was is = record {
   stands = start.to.stands;
@@ -57,8 +57,8 @@ grows_started {id} {cells = cells} start whole stamp left was is = record {
 }
 
 -- after a push
-pub grows_pushed : {id : ℕ} {command : Command} {answer : Answer} {SaysOf : Cell → Type 0} {cells : Cells} {cell : Cell} {Stood StandsFor Then : Knowledge → Cells → Type 0} {past since : ℕ → Files → Type 0} →
-    Grows id cells cell Stood StandsFor past since → (push : StepsTo id command answer SaysOf (with_cell cells id cell) StandsFor Then) → Grows id cells push.cell Stood Then past since
+pub grows_pushed : {room : Room} {id : ℕ} {command : Command} {answer : Answer} {SaysOf : Cell → Type 0} {cells : Cells} {cell : Cell} {Stood StandsFor Then : Knowledge → Cells → Type 0} {past since : ℕ → Files → Type 0} →
+    Grows id cells cell Stood StandsFor past since → (push : StepsTo room id command answer SaysOf (with_cell cells id cell) StandsFor Then) → Grows id cells push.cell Stood Then past since
 grows_pushed {id} {cells = cells} {cell = cell} {Then = Then} grows push = record {
   stands = λ known old. subst (Then known) (with_cell-again cells id cell push.cell) (push.stands known (grows.stands known old));
   images = grows.images;
@@ -67,8 +67,8 @@ grows_pushed {id} {cells = cells} {cell = cell} {Then = Then} grows push = recor
 }
 
 -- and it is ended
-module _ {id : ℕ} {command : Command} {answer : Answer} {SaysOf : Cell → Type 0} {cells : Cells} {cell : Cell} {Stood Between StandsFor : Knowledge → Cells → Type 0} {past mid since : ℕ → Files → Type 0}
-    (grows : Grows id cells cell Stood Between past mid) (end : TakesStep id command answer SaysOf (with_cell cells id cell) Between StandsFor mid since) where
+module _ {room : Room} {id : ℕ} {command : Command} {answer : Answer} {SaysOf : Cell → Type 0} {cells : Cells} {cell : Cell} {Stood Between StandsFor : Knowledge → Cells → Type 0} {past mid since : ℕ → Files → Type 0}
+    (grows : Grows id cells cell Stood Between past mid) (end : TakesStep room id command answer SaysOf (with_cell cells id cell) Between StandsFor mid since) where
   pub ended_stands : (known : Knowledge) → Stood known cells → StandsFor known (with_cell cells id end.to.cell)
   ended_stands known old = subst (StandsFor known) (with_cell-again cells id cell end.to.cell) (end.to.stands known (grows.stands known old))
 

@@ -3,7 +3,7 @@ use Rattle.std.proofs.Common.{◌≡◌, ◌-◌, inl, inr, ℕ, List, [], lengt
 use Rattle.disk_model.specs.Worlds.{World}
 use Rattle.disk_model.specs.Marks.{Mark}
 use Rattle.map_model.specs.Cells.{Cell, Cells, growing}
-use Rattle.map_model.specs.Steps.{push, write, done, failed}
+use Rattle.map_model.specs.Steps.{Room, push, write, done, failed}
 use Rattle.pair_draft.specs.Writers.{Writer}
 use Rattle.map_model.specs.Stands.{BlockBooks}
 use Rattle.pool_state.specs.Answers.{StepsTo}
@@ -24,10 +24,10 @@ use Rattle.run_session.specs.Standing.{NotGrowing}
 use Rattle.run_session.proofs.Stepping.{at_block_steps}
 
 -- all bytes are pushed
-pub fill_step : {told : Option (List World)} {volumes : ℕ} {books : ℕ → BlockBooks} {cells : Cells} (id stamp : ℕ) (piece : List ℕ) (w : Writer) →
+pub fill_step : {room : Room} {told : Option (List World)} {volumes : ℕ} {books : ℕ → BlockBooks} {cells : Cells} (id stamp : ℕ) (piece : List ℕ) (w : Writer) →
     WriterStands told books w [] → w.id ≡ id → w.stamp ≡ stamp → w.reserved ≡ length piece → cells id ≡ growing stamp None [] (length piece) →
-    StepsTo id (push piece) done (λ cell. cell ≡ growing stamp None piece (length piece - length piece)) cells (PoolStands told volumes books) (PoolStands told volumes books)
-fill_step {told} {volumes} {books} {cells} id stamp piece w belongs same_id same_stamp full grows =
+    StepsTo room id (push piece) done (λ cell. cell ≡ growing stamp None piece (length piece - length piece)) cells (PoolStands told volumes books) (PoolStands told volumes books)
+fill_step {room} {told} {volumes} {books} {cells} id stamp piece w belongs same_id same_stamp full grows =
     let none : w.len ≡ 0 = belongs.pushed.len in
     let rest : length piece ≡ w.reserved - w.len = omega (arith, full, none) in
     let at : cells w.id ≡ growing w.stamp None [] (w.reserved - w.len) =

@@ -36,7 +36,7 @@ use Rattle.run_model.specs.Lines.{CellsReopened}
 use Rattle.run_model.specs.Images.{StaysCrashSafe}
 use Rattle.run_model.specs.Carrying.{IsKnown, LineCarried}
 use Rattle.run_session.specs.Standing.{Standing}
-use Rattle.run_session.proofs.Opened.{opened_of, stands_opened}
+use Rattle.run_session.proofs.Opened.{opened_of, stands_opened, books_opened}
 
 -- ---- one block
 
@@ -187,14 +187,14 @@ reads_sound stands image reads = reads.2.sound (worlds_known stands reads.0 read
 -- ---- the line
 
 -- the pool was opened again: no writer is open, and the session stands for what was found
-pub carried_reopen : {Faulty : ℕ → ℕ → Type 0} {told told' : Option (List World)} {volumes volumes' : ℕ} {books books' : ℕ → BlockBooks}
-    {writers writers' : ℕ → Option Writer} {state : RunState} {before after : Mark} {past since : ℕ → Files → Type 0} → Standing told volumes books writers state →
-    (opens : Opens told told' volumes' books' past since) → ((id : ℕ) → writers' id ≡ None) → AddsOnly past since (ReadsAsOne told) →
-    LineCarried Faulty told state before Reopen Done after (Standing told' volumes' books' writers') (PoolStands told volumes books matching) (PoolStands told' volumes' books' matching) past since
-carried_reopen {told = told} {volumes = volumes} {books = books} {writers' = writers'} {state = state} standing opens none images = record {
-  new = opened_of opens.cells state.metas state.writers;
+pub carried_reopen : {Faulty : ℕ → ℕ → Type 0} {shares shares' : List ℕ} {told told' : Option (List World)} {volumes volumes' : ℕ} {books books' : ℕ → BlockBooks}
+    {writers writers' : ℕ → Option Writer} {state : RunState} {before after : Mark} {past since : ℕ → Files → Type 0} → shares' ≡ shares → Standing shares told volumes books writers state →
+    (opens : Opens told told' volumes' books' past since) → ((id : ℕ) → writers' id ≡ None) → AddsOnly past since (ReadsAsOne told) → volumes' ≡ 1 → ((id : ℕ) → (books' id).ticket ≡ None) →
+    LineCarried Faulty told state before Reopen Done after (Standing shares' told' volumes' books' writers') (PoolStands told volumes books matching) (PoolStands told' volumes' books' matching) past since
+carried_reopen {shares = shares} {shares' = shares'} {told = told} {volumes = volumes} {books = books} {books' = books'} {writers' = writers'} {state = state} same_shares standing opens none images one free = record {
+  new = opened_of opens.cells state.metas state.writers books' shares';
   stands = stands_opened writers' opens (opens.stands_by (exactly state.metas) (worlds_known standing.pool)) state.writers none;
-  does = λ trust known. record { done = refl; cells = by_trust trust known; metas = refl; writers = λ id. refl };
+  does = λ trust known. record { done = refl; cells = by_trust trust known; metas = refl; writers = λ id. refl; shares = same_shares ∙ sym standing.shared; books = λ id valid. books_opened one free opens.stands id valid (opens.opened id valid) };
   crash = record {
     images = λ t image s. elim (images t image s) [ inl earlier ↦ inl earlier | inr reads ↦ inr (inl (reads_allowed standing.pool image reads)) ];
     sound = λ was. opens.stands_by matching (worlds_known was);
@@ -214,8 +214,8 @@ carried_reopen {told = told} {volumes = volumes} {books = books} {writers' = wri
     by_trust sound_disks known = by_telling known.0
 
 -- it wasn't: what a crash can leave, the cells before allow
-pub stays_reopen : {told : Option (List World)} {volumes : ℕ} {books : ℕ → BlockBooks} {writers : ℕ → Option Writer} {state : RunState} {past since : ℕ → Files → Type 0} →
-    Standing told volumes books writers state → AddsOnly past since (ReadsAsOne told) → StaysCrashSafe state.cells (PoolStands told volumes books matching) past since
+pub stays_reopen : {shares : List ℕ} {told : Option (List World)} {volumes : ℕ} {books : ℕ → BlockBooks} {writers : ℕ → Option Writer} {state : RunState} {past since : ℕ → Files → Type 0} →
+    Standing shares told volumes books writers state → AddsOnly past since (ReadsAsOne told) → StaysCrashSafe state.cells (PoolStands told volumes books matching) past since
 stays_reopen standing images = record {
   images = λ t image s. elim (images t image s) [ inl earlier ↦ inl earlier | inr reads ↦ inr (reads_allowed standing.pool image reads) ];
   sound_images = λ was t image s. elim (images t image s) [ inl earlier ↦ inl earlier | inr reads ↦ inr (reads_sound was image reads) ];

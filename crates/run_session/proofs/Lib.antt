@@ -1,4 +1,5 @@
 pub mod Stepping
+pub mod Booked
 pub mod Stepped
 pub mod Composing
 pub mod Opened

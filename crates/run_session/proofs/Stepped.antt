@@ -7,12 +7,13 @@ use Rattle.std.proofs.Math.Seq.{take-length}
 use Rattle.disk_model.specs.Worlds.{World, DraftPlace, draft_at}
 use Rattle.disk_model.specs.Causes.{Rose, FaultyOne}
 use Rattle.map_model.specs.Cells.{Replica, Cell, Cells, absent, final, growing, unsure, waiting}
-use Rattle.map_model.specs.Steps.{Reply as Answer, Step, CarriedOut, cell_after, success, start_write, push, finish, drop_write, write, read, delete, write_refusal, delete_refusal, half_deleted, content, done, no_block, is_writing, is_waiting, failed, memory, over, no_writer}
+use Rattle.map_model.specs.Steps.{Room, Reply as Answer, Step, CarriedOut, cell_after, success, start_write, push, finish, drop_write, write, read, delete, write_refusal, delete_refusal, half_deleted, content, done, no_block, is_writing, is_waiting, failed, memory, over, no_writer}
 use Rattle.pool_state.specs.declared.start_fault.StartFault.{StartFault}
-use Rattle.pool_state.specs.declared.start_fault.StartFault.TheVariants.{Exists as WasThere, None as WasAbsent, Writing as WasWriting, Waiting as WasWaiting, Unsure as WasUnsure, Failed as HasFailed, Memory as NoMemory}
+use Rattle.pool_state.specs.declared.start_fault.StartFault.TheVariants.{Exists as WasThere, None as WasAbsent, Writing as WasWriting, Waiting as WasWaiting, Unsure as WasUnsure, Full as IsFull, TooLong as IsTooLong, Failed as HasFailed, Memory as NoMemory}
 use Rattle.pool_state.specs.declared.deleting.DeleteFault.{DeleteFault}
 use Rattle.pool_state.specs.declared.deleting.DeleteFault.TheVariants.{None as NotThere, Writing as IsWrittenNow, Failed as RemovalFailed}
-use Rattle.pool_state.specs.Answers.{unlimited, start_fault, delete_fault}
+use Rattle.pool_state.specs.Answers.{start_fault, delete_fault}
+use Rattle.pool_state.proofs.AnyRoom.{any_room}
 use Rattle.meta_file.specs.declared.verdict.Verdict.{Verdict}
 use Rattle.meta_file.specs.declared.verdict.Verdict.TheVariants.{Whole}
 use Rattle.meta_file.specs.Verdicts.{verdict_of}
@@ -41,6 +42,8 @@ says_refusal trust metas WasAbsent = refl
 says_refusal trust metas WasWriting = refl
 says_refusal trust metas WasWaiting = refl
 says_refusal trust metas WasUnsure = refl
+says_refusal trust metas (IsFull need free) = refl
+says_refusal trust metas (IsTooLong limit) = refl
 says_refusal trust metas HasFailed = refl
 says_refusal trust metas NoMemory = refl
 
@@ -54,6 +57,8 @@ start_gives_nothing WasAbsent gives = gives
 start_gives_nothing WasWriting gives = gives
 start_gives_nothing WasWaiting gives = gives
 start_gives_nothing WasUnsure gives = gives
+start_gives_nothing (IsFull need free) gives = gives
+start_gives_nothing (IsTooLong limit) gives = gives
 start_gives_nothing HasFailed gives = gives
 start_gives_nothing NoMemory gives = gives
 
@@ -68,6 +73,8 @@ is_failed WasAbsent is = absurd cc
 is_failed WasWriting is = absurd cc
 is_failed WasWaiting is = absurd cc
 is_failed WasUnsure is = absurd cc
+is_failed (IsFull need free) is = absurd cc
+is_failed (IsTooLong limit) is = absurd cc
 is_failed HasFailed is = refl
 is_failed NoMemory is = absurd cc
 
@@ -77,6 +84,8 @@ is_memory WasAbsent is = absurd cc
 is_memory WasWriting is = absurd cc
 is_memory WasWaiting is = absurd cc
 is_memory WasUnsure is = absurd cc
+is_memory (IsFull need free) is = absurd cc
+is_memory (IsTooLong limit) is = absurd cc
 is_memory HasFailed is = absurd cc
 is_memory NoMemory is = refl
 
@@ -87,25 +96,27 @@ begins_nothing stamp need WasAbsent = refl
 begins_nothing stamp need WasWriting = refl
 begins_nothing stamp need WasWaiting = refl
 begins_nothing stamp need WasUnsure = refl
+begins_nothing stamp need (IsFull n free) = refl
+begins_nothing stamp need (IsTooLong limit) = refl
 begins_nothing stamp need HasFailed = refl
 begins_nothing stamp need NoMemory = refl
 
 -- a block without a writer takes no piece, and no finish
-pub no_push : (cell : Cell) (piece : List ℕ) → NotGrowing cell → Step unlimited cell (push piece) no_writer cell
+pub no_push : (cell : Cell) (piece : List ℕ) → NotGrowing cell → Step any_room cell (push piece) no_writer cell
 no_push absent piece rests = (refl, refl)
 no_push (final replica) piece rests = (refl, refl)
 no_push (growing stamp base bytes left) piece rests = absurd rests
 no_push (unsure x y cut) piece rests = (refl, refl)
 no_push waiting piece rests = (refl, refl)
 
-pub no_finish : (cell : Cell) → NotGrowing cell → Step unlimited cell finish no_writer cell
+pub no_finish : (cell : Cell) → NotGrowing cell → Step any_room cell finish no_writer cell
 no_finish absent rests = (refl, refl)
 no_finish (final replica) rests = (refl, refl)
 no_finish (growing stamp base bytes left) rests = absurd rests
 no_finish (unsure x y cut) rests = (refl, refl)
 no_finish waiting rests = (refl, refl)
 
-pub no_drop : (cell : Cell) → NotGrowing cell → Step unlimited cell drop_write no_writer cell
+pub no_drop : (cell : Cell) → NotGrowing cell → Step any_room cell drop_write no_writer cell
 no_drop absent rests = (refl, refl)
 no_drop (final replica) rests = (refl, refl)
 no_drop (growing stamp base bytes left) rests = absurd rests
@@ -126,38 +137,38 @@ fits : (left n : ℕ) → n ≤ left → nat_lt left n ≡ false
 fits left n within = grind (arith, nat_tests)
 
 -- a piece that is too long
-pub over_push : (stamp left : ℕ) (bytes piece : List ℕ) → left < length piece → Step unlimited (growing stamp None bytes left) (push piece) (over left) (growing stamp None bytes left)
+pub over_push : (stamp left : ℕ) (bytes piece : List ℕ) → left < length piece → Step any_room (growing stamp None bytes left) (push piece) (over left) (growing stamp None bytes left)
 over_push stamp left bytes piece past = rw (passes left (length piece) past) (refl, refl)
 
 -- want of memory
-pub memory_push : (stamp left : ℕ) (bytes piece : List ℕ) → length piece ≤ left → Step unlimited (growing stamp None bytes left) (push piece) memory (growing stamp None bytes left)
+pub memory_push : (stamp left : ℕ) (bytes piece : List ℕ) → length piece ≤ left → Step any_room (growing stamp None bytes left) (push piece) memory (growing stamp None bytes left)
 memory_push stamp left bytes piece within = rw (fits left (length piece) within) refl
 
 -- a piece whose draft failed
-pub failed_push : (stamp left : ℕ) (bytes piece : List ℕ) → length piece ≤ left → Step unlimited (growing stamp None bytes left) (push piece) failed waiting
+pub failed_push : (stamp left : ℕ) (bytes piece : List ℕ) → length piece ≤ left → Step any_room (growing stamp None bytes left) (push piece) failed waiting
 failed_push stamp left bytes piece within = rw (fits left (length piece) within) refl
 
 -- a writer whose end failed
-pub failed_finish : (stamp left : ℕ) (bytes : List ℕ) → Step unlimited (growing stamp None bytes left) finish failed waiting
+pub failed_finish : (stamp left : ℕ) (bytes : List ℕ) → Step any_room (growing stamp None bytes left) finish failed waiting
 failed_finish stamp left bytes = rw (fits left 0 (omega arith)) (inl refl)
 
-pub memory_finish : (stamp left : ℕ) (bytes : List ℕ) → Step unlimited (growing stamp None bytes left) finish memory (growing stamp None bytes left)
+pub memory_finish : (stamp left : ℕ) (bytes : List ℕ) → Step any_room (growing stamp None bytes left) finish memory (growing stamp None bytes left)
 memory_finish stamp left bytes = rw (fits left 0 (omega arith)) refl
 
 -- a read that is answered `memory` isn't of a waiting block
-pub no_lack : (cell : Cell) → Step unlimited cell read memory cell → cell ≡ waiting → ⊥
-no_lack cell step is = let it : Step unlimited waiting read memory waiting = subst (λ c. Step unlimited c read memory c) is step in let bad : memory ≡ is_waiting = it.0 in absurd cc
+pub no_lack : (cell : Cell) → Step any_room cell read memory cell → cell ≡ waiting → ⊥
+no_lack cell step is = let it : Step any_room waiting read memory waiting = subst (λ c. Step any_room c read memory c) is step in let bad : memory ≡ is_waiting = it.0 in absurd cc
 
 -- the reads of a final block
 module _ (cell : Cell) (replica : Replica) (is : cell ≡ final replica) where
-  pub reads_content : Step unlimited cell read (content replica) cell
-  reads_content = subst (λ c. Step unlimited c read (content replica) c) (sym is) (refl, refl)
+  pub reads_content : Step any_room cell read (content replica) cell
+  reads_content = subst (λ c. Step any_room c read (content replica) c) (sym is) (refl, refl)
 
-  pub reads_failed : Step unlimited cell read failed cell
-  reads_failed = subst (λ c. Step unlimited c read failed c) (sym is) refl
+  pub reads_failed : Step any_room cell read failed cell
+  reads_failed = subst (λ c. Step any_room c read failed c) (sym is) refl
 
-  pub reads_memory : Step unlimited cell read memory cell
-  reads_memory = subst (λ c. Step unlimited c read memory c) (sym is) refl
+  pub reads_memory : Step any_room cell read memory cell
+  reads_memory = subst (λ c. Step any_room c read memory c) (sym is) refl
 
   pub not_waiting : cell ≡ waiting → ⊥
   not_waiting waits = let bad : final replica ≡ waiting = sym is ∙ waits in cc
@@ -250,19 +261,10 @@ faulty_reader number_of faults_of first last (Some r) failed_one lent =
 pub failed_not_memory : failed ≡ memory → ⊥
 failed_not_memory same = cc
 
--- no length is refused
-free_write : (len : ℕ) → len < 2 ^ 64 → write_refusal unlimited absent len ≡ None
-free_write len fits = grind (arith, nat_tests)
-
 -- a write of an absent block that is carried out
-pub write_of : (cell : Cell) (stamp : ℕ) (bytes : List ℕ) (reply : Answer) (after : Cell) → cell ≡ absent → length bytes < 2 ^ 64 → CarriedOut absent (write stamp bytes) reply after →
-    Step unlimited cell (write stamp bytes) reply after
-write_of cell stamp bytes reply after is fits out = subst (λ c. Step unlimited c (write stamp bytes) reply after) (sym is) (rw (free_write (length bytes) fits) out)
-
--- a start that is refused refuses the write
-started_absent : (stamp : ℕ) (bytes : List ℕ) (fault : StartFault) → length bytes < 2 ^ 64 → Step unlimited absent (start_write stamp (length bytes)) (start_fault fault) absent →
-    CarriedOut absent (start_write stamp (length bytes)) (start_fault fault) absent
-started_absent stamp bytes fault fits step = subst (λ o. MatchOption o (CarriedOut absent (start_write stamp (length bytes)) (start_fault fault) absent) (λ refused. (start_fault fault ≡ refused) × (absent ≡ absent))) (free_write (length bytes) fits) step
+pub write_of : (room : Room) (cell : Cell) (stamp : ℕ) (bytes : List ℕ) (reply : Answer) (after : Cell) → cell ≡ absent → write_refusal room absent (length bytes) ≡ None → CarriedOut absent (write stamp bytes) reply after →
+    Step room cell (write stamp bytes) reply after
+write_of room cell stamp bytes reply after is fits out = subst (λ c. Step room c (write stamp bytes) reply after) (sym is) (rw fits out)
 
 never_absent : (stamp len : ℕ) (fault : StartFault) → (fault ≡ HasFailed → ⊥) → (fault ≡ NoMemory → ⊥) → CarriedOut absent (start_write stamp len) (start_fault fault) absent → ⊥
 never_absent stamp len WasThere not_failed not_memory out = let bad : Rattle.map_model.specs.Steps.exists ≡ Rattle.map_model.specs.Steps.done = out.0 in cc
@@ -270,25 +272,33 @@ never_absent stamp len WasAbsent not_failed not_memory out = let bad : Rattle.ma
 never_absent stamp len WasWriting not_failed not_memory out = let bad : Rattle.map_model.specs.Steps.is_writing ≡ Rattle.map_model.specs.Steps.done = out.0 in cc
 never_absent stamp len WasWaiting not_failed not_memory out = let bad : Rattle.map_model.specs.Steps.is_waiting ≡ Rattle.map_model.specs.Steps.done = out.0 in cc
 never_absent stamp len WasUnsure not_failed not_memory out = let bad : Rattle.map_model.specs.Steps.is_unsure ≡ Rattle.map_model.specs.Steps.done = out.0 in cc
+never_absent stamp len (IsFull need free) not_failed not_memory out = let bad : Rattle.map_model.specs.Steps.full need free ≡ Rattle.map_model.specs.Steps.done = out.0 in cc
+never_absent stamp len (IsTooLong limit) not_failed not_memory out = let bad : Rattle.map_model.specs.Steps.too_long limit ≡ Rattle.map_model.specs.Steps.done = out.0 in cc
 never_absent stamp len HasFailed not_failed not_memory out = not_failed refl
 never_absent stamp len NoMemory not_failed not_memory out = not_memory refl
 
-pub write_refused : (cell : Cell) (stamp : ℕ) (bytes : List ℕ) (fault : StartFault) → length bytes < 2 ^ 64 → (fault ≡ HasFailed → ⊥) → (fault ≡ NoMemory → ⊥) →
-    Step unlimited cell (start_write stamp (length bytes)) (start_fault fault) cell → Step unlimited cell (write stamp bytes) (start_fault fault) cell
-write_refused absent stamp bytes fault fits not_failed not_memory step = absurd (never_absent stamp (length bytes) fault not_failed not_memory (started_absent stamp bytes fault fits step))
-write_refused (final replica) stamp bytes fault fits not_failed not_memory step = step
-write_refused (growing now base grown left) stamp bytes fault fits not_failed not_memory step = step
-write_refused (unsure x y cut) stamp bytes fault fits not_failed not_memory step = step
-write_refused waiting stamp bytes fault fits not_failed not_memory step = step
+-- a start that is refused refuses the write
+pub write_refused : (room : Room) (cell : Cell) (stamp : ℕ) (bytes : List ℕ) (fault : StartFault) → (fault ≡ HasFailed → ⊥) → (fault ≡ NoMemory → ⊥) →
+    Step room cell (start_write stamp (length bytes)) (start_fault fault) cell → Step room cell (write stamp bytes) (start_fault fault) cell
+write_refused room absent stamp bytes fault not_failed not_memory step = by_refusal (write_refusal room absent (length bytes)) step
+  where
+    by_refusal : (refused : Option Answer) → MatchOption refused (CarriedOut absent (start_write stamp (length bytes)) (start_fault fault) absent) (λ r. (start_fault fault ≡ r) × (absent ≡ absent)) →
+        MatchOption refused (CarriedOut absent (write stamp bytes) (start_fault fault) absent) (λ r. (start_fault fault ≡ r) × (absent ≡ absent))
+    by_refusal None out = absurd (never_absent stamp (length bytes) fault not_failed not_memory out)
+    by_refusal (Some r) same = same
+write_refused room (final replica) stamp bytes fault not_failed not_memory step = step
+write_refused room (growing now base grown left) stamp bytes fault not_failed not_memory step = step
+write_refused room (unsure x y cut) stamp bytes fault not_failed not_memory step = step
+write_refused room waiting stamp bytes fault not_failed not_memory step = step
 
 -- a start that fails, or finds no memory, ends the write so
-pub write_unstarted : (cell : Cell) (stamp : ℕ) (bytes : List ℕ) (fault : StartFault) (after : Cell) → cell ≡ absent → length bytes < 2 ^ 64 → (after ≡ cell) ⊎ (after ≡ waiting) →
-    Step unlimited cell (start_write stamp (length bytes)) (start_fault fault) after → Step unlimited cell (write stamp bytes) (start_fault fault) after
-write_unstarted cell stamp bytes fault after is fits left step =
-    let at : Step unlimited absent (start_write stamp (length bytes)) (start_fault fault) after = subst (λ c. Step unlimited c (start_write stamp (length bytes)) (start_fault fault) after) is step in
+pub write_unstarted : (room : Room) (cell : Cell) (stamp : ℕ) (bytes : List ℕ) (fault : StartFault) (after : Cell) → cell ≡ absent → write_refusal room absent (length bytes) ≡ None → (after ≡ cell) ⊎ (after ≡ waiting) →
+    Step room cell (start_write stamp (length bytes)) (start_fault fault) after → Step room cell (write stamp bytes) (start_fault fault) after
+write_unstarted room cell stamp bytes fault after is fits left step =
+    let at : Step room absent (start_write stamp (length bytes)) (start_fault fault) after = subst (λ c. Step room c (start_write stamp (length bytes)) (start_fault fault) after) is step in
     let out : CarriedOut absent (start_write stamp (length bytes)) (start_fault fault) after =
-    subst (λ o. MatchOption o (CarriedOut absent (start_write stamp (length bytes)) (start_fault fault) after) (λ refused. (start_fault fault ≡ refused) × (after ≡ absent))) (free_write (length bytes) fits) at in
-    write_of cell stamp bytes (start_fault fault) after is fits (unstarted stamp bytes fault after out)
+    subst (λ o. MatchOption o (CarriedOut absent (start_write stamp (length bytes)) (start_fault fault) after) (λ refused. (start_fault fault ≡ refused) × (after ≡ absent))) fits at in
+    write_of room cell stamp bytes (start_fault fault) after is fits (unstarted stamp bytes fault after out)
   where
     unstarted : (stamp : ℕ) (bytes : List ℕ) (fault : StartFault) (after : Cell) → CarriedOut absent (start_write stamp (length bytes)) (start_fault fault) after → CarriedOut absent (write stamp bytes) (start_fault fault) after
     unstarted stamp bytes WasThere after out = absurd (let bad : Rattle.map_model.specs.Steps.exists ≡ Rattle.map_model.specs.Steps.done = out.0 in cc)
@@ -296,6 +306,8 @@ write_unstarted cell stamp bytes fault after is fits left step =
     unstarted stamp bytes WasWriting after out = absurd (let bad : Rattle.map_model.specs.Steps.is_writing ≡ Rattle.map_model.specs.Steps.done = out.0 in cc)
     unstarted stamp bytes WasWaiting after out = absurd (let bad : Rattle.map_model.specs.Steps.is_waiting ≡ Rattle.map_model.specs.Steps.done = out.0 in cc)
     unstarted stamp bytes WasUnsure after out = absurd (let bad : Rattle.map_model.specs.Steps.is_unsure ≡ Rattle.map_model.specs.Steps.done = out.0 in cc)
+    unstarted stamp bytes (IsFull need free) after out = absurd (let bad : Rattle.map_model.specs.Steps.full need free ≡ Rattle.map_model.specs.Steps.done = out.0 in cc)
+    unstarted stamp bytes (IsTooLong limit) after out = absurd (let bad : Rattle.map_model.specs.Steps.too_long limit ≡ Rattle.map_model.specs.Steps.done = out.0 in cc)
     unstarted stamp bytes HasFailed after out = elim out [ inl same ↦ inl same | inr waits ↦ inr (inl waits) ]
     unstarted stamp bytes NoMemory after out = out
 
@@ -324,6 +336,8 @@ write_learns_nothing stamp bytes WasAbsent metas id cell waits = refl
 write_learns_nothing stamp bytes WasWriting metas id cell waits = refl
 write_learns_nothing stamp bytes WasWaiting metas id cell waits = refl
 write_learns_nothing stamp bytes WasUnsure metas id cell waits = refl
+write_learns_nothing stamp bytes (IsFull need free) metas id cell waits = refl
+write_learns_nothing stamp bytes (IsTooLong limit) metas id cell waits = refl
 write_learns_nothing stamp bytes HasFailed metas id cell waits = subst (λ c. LearnsBy metas id c metas) (sym (waits refl)) refl
 write_learns_nothing stamp bytes NoMemory metas id cell waits = refl
 
@@ -368,7 +382,7 @@ deletes_so (unsure x y cut) free answer not_done same = not_done same
 deletes_so waiting free answer not_done same = not_done same
 
 -- of a block that can be deleted, the only fault is that of the disks
-pub only_failure : (cell after : Cell) (fault : DeleteFault) → delete_refusal cell ≡ None → Step unlimited cell delete (delete_fault fault) after → fault ≡ RemovalFailed
+pub only_failure : (cell after : Cell) (fault : DeleteFault) → delete_refusal cell ≡ None → Step any_room cell delete (delete_fault fault) after → fault ≡ RemovalFailed
 only_failure cell after NotThere free step = let out : (no_block ≡ success cell delete) × (cell_after cell delete ≡ Some after) = subst (λ o. MatchOption o (CarriedOut cell delete no_block after) (λ refused. (no_block ≡ refused) × (after ≡ cell))) free step in absurd (deletes_so cell free no_block (λ same. cc) out.0)
 only_failure cell after IsWrittenNow free step = let out : (is_writing ≡ success cell delete) × (cell_after cell delete ≡ Some after) = subst (λ o. MatchOption o (CarriedOut cell delete is_writing after) (λ refused. (is_writing ≡ refused) × (after ≡ cell))) free step in absurd (deletes_so cell free is_writing (λ same. cc) out.0)
 only_failure cell after RemovalFailed free step = refl

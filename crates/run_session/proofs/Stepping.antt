@@ -8,11 +8,11 @@ use Rattle.disk_model.specs.Moments.{AddsOnly}
 use Rattle.map_model.specs.Copies.{OneWhole}
 use Rattle.disk_model.specs.Worlds.{World, DraftPlace, draft_at}
 use Rattle.map_model.specs.Cells.{Cell, Cells, growing, waiting}
-use Rattle.map_model.specs.Steps.{Command, Step, Reply as Answer, failed, memory}
+use Rattle.map_model.specs.Steps.{Command, Room, Step, Reply as Answer, failed, memory}
 use Rattle.map_model.specs.Stands.{BlockBooks}
 use Rattle.disk_model.specs.Files.{Files}
 use Rattle.disk_model.specs.Marks.{GivenBetween, Mark}
-use Rattle.pool_state.specs.Answers.{unlimited, StepsTo, TakesStep, IsQuiet}
+use Rattle.pool_state.specs.Answers.{StepsTo, TakesStep, IsQuiet}
 use Rattle.run_model.specs.Images.{CrashSafe}
 use Rattle.pool_state.specs.Stands.{with_cell, PoolStands}
 use Rattle.pair_draft.specs.Writers.{Writer, Keeps}
@@ -24,6 +24,7 @@ use Rattle.run_model.specs.Commands.{Trust, Says, FailsBy, begins_writer, IsCont
 use Rattle.pool_state.specs.Readers.{LooksForTwo}
 use Rattle.map_model.specs.Sound.{Metas, Knowledge, nothing, matching, exactly}
 use Rattle.pool_state.proofs.Changing.{stands_for_less}
+use Rattle.run_model.specs.Books.{RoomAsked, BookStep, BooksChange}
 use Rattle.run_model.specs.Carrying.{IsKnown, CarriesOut}
 use Rattle.run_session.specs.Standing.{NotGrowing, OpenWriter, Standing}
 
@@ -41,8 +42,8 @@ pub put_other : {X : Type 0} (id key : ℕ) (new old : X) → id ≢ key → (if
 put_other id key new old apart = rw (ne_eqb id key apart) refl
 
 -- where a session stands, nothing need be known of the meta files
-pub loose : {told : Option (List World)} {volumes : ℕ} {books : ℕ → BlockBooks} {writers : ℕ → Option Writer} {state : RunState} →
-    Standing told volumes books writers state → PoolStands told volumes books nothing state.cells
+pub loose : {shares : List ℕ} {told : Option (List World)} {volumes : ℕ} {books : ℕ → BlockBooks} {writers : ℕ → Option Writer} {state : RunState} →
+    Standing shares told volumes books writers state → PoolStands told volumes books nothing state.cells
 loose standing = stands_for_less (λ id content replica fits. tt) standing.pool
 
 -- a writer of another block
@@ -73,15 +74,17 @@ keeps_open told told' books books' id cell numbers None honest same here = here
 keeps_open told told' books books' id cell numbers (Some w) honest same here = open_on told told' books books' id cell numbers w honest same here
 
 -- A TENURE ON ONE BLOCK: the others' writers stay
-pub goes_on : {told told' : Option (List World)} {volumes volumes' : ℕ} {books books' : ℕ → BlockBooks} {writers writers' : ℕ → Option Writer} {state : RunState} →
-    Standing told volumes books writers state → (id : ℕ) (cell : Cell) {metas : Metas} (numbers : ℕ → Numbers) →
+pub goes_on : {shares shares' : List ℕ} {told told' : Option (List World)} {volumes volumes' : ℕ} {books books' : ℕ → BlockBooks} {writers writers' : ℕ → Option Writer} {state : RunState} →
+    shares' ≡ shares → Standing shares told volumes books writers state → (id : ℕ) (cell : Cell) {metas : Metas} (numbers : ℕ → Numbers) →
     PoolStands told' volumes' books' (exactly metas) (with_cell state.cells id cell) → (IsSome told' → IsSome told) →
     ((other : ℕ) → other ≢ id → books' other ≡ books other) → ((other : ℕ) → other ≢ id → writers' other ≡ writers other) →
     ((other : ℕ) → other ≢ id → numbers other ≡ state.writers other) →
     MatchOption (writers' id) (NotGrowing cell) (OpenWriter told' books' id cell (numbers id)) →
-    Standing told' volumes' books' writers' (record { cells = with_cell state.cells id cell; metas = metas; writers = numbers })
-goes_on {told} {told'} {volumes} {volumes'} {books} {books'} {writers} {writers'} {state} standing id cell {metas} numbers pool honest books_stay writers_stay numbers_stay own = record {
+    Standing shares' told' volumes' books' writers' (record { cells = with_cell state.cells id cell; metas = metas; writers = numbers; books = books'; shares = state.shares })
+goes_on {shares} {shares'} {told} {told'} {volumes} {volumes'} {books} {books'} {writers} {writers'} {state} same_shares standing id cell {metas} numbers pool honest books_stay writers_stay numbers_stay own = record {
   pool = pool;
+  shared = standing.shared ∙ sym same_shares;
+  said = λ other. refl;
   writer = λ other valid. elim (cases_eq other id) [
     | inl same ↦
         subst (λ n. MatchOption (writers' n) (NotGrowing (with_cell state.cells id cell n)) (OpenWriter told' books' n (with_cell state.cells id cell n) (numbers n))) (sym same)
@@ -95,11 +98,13 @@ goes_on {told} {told'} {volumes} {volumes'} {books} {books'} {writers} {writers'
 }
 
 -- where the same cells stand, and the same writers are open
-pub stays_on : {told told' : Option (List World)} {volumes volumes' : ℕ} {books books' : ℕ → BlockBooks} {writers writers' : ℕ → Option Writer} {state : RunState} →
-    Standing told volumes books writers state → PoolStands told' volumes' books' (exactly state.metas) state.cells → (IsSome told' → IsSome told) →
-    ((id : ℕ) → books' id ≡ books id) → ((id : ℕ) → writers' id ≡ writers id) → Standing told' volumes' books' writers' state
-stays_on {told} {told'} {volumes} {volumes'} {books} {books'} {writers} {writers'} {state} standing pool honest books_stay writers_stay = record {
+pub stays_on : {shares shares' : List ℕ} {told told' : Option (List World)} {volumes volumes' : ℕ} {books books' : ℕ → BlockBooks} {writers writers' : ℕ → Option Writer} {state : RunState} →
+    shares' ≡ shares → Standing shares told volumes books writers state → PoolStands told' volumes' books' (exactly state.metas) state.cells → (IsSome told' → IsSome told) →
+    ((id : ℕ) → books' id ≡ books id) → ((id : ℕ) → writers' id ≡ writers id) → Standing shares' told' volumes' books' writers' state
+stays_on {shares} {shares'} {told} {told'} {volumes} {volumes'} {books} {books'} {writers} {writers'} {state} same_shares standing pool honest books_stay writers_stay = record {
   pool = pool;
+  shared = standing.shared ∙ sym same_shares;
+  said = λ id. standing.said id ∙ sym (books_stay id);
   writer = λ id valid.
       subst (λ w. MatchOption w (NotGrowing (state.cells id)) (OpenWriter told' books' id (state.cells id) (state.writers id))) (sym (writers_stay id))
       (keeps_open told told' books books' id (state.cells id) (state.writers id) (writers id) honest (books_stay id) (standing.writer id valid));
@@ -206,18 +211,18 @@ begins_none : (b : Bool) (id : ℕ) (other : ℕ) (new old : Numbers) → b ≡ 
 begins_none b id other new old same = rw same refl
 
 -- a tenure at another name of its block
-pub at_block : {id other : ℕ} {command : Command} {answer : Answer} {SaysOf : Cell → Type 0} {cells : Cells} {Stood StandsFor : Knowledge → Cells → Type 0} {past since : ℕ → Files → Type 0} →
-    {Whole : Type 0} → id ≡ other → TakesStep id command answer SaysOf cells Stood StandsFor past since × Whole → TakesStep other command answer SaysOf cells Stood StandsFor past since × Whole
-at_block {id} {other} {command} {answer} {SaysOf} {cells} {Stood} {StandsFor} {past} {since} {Whole} same step =
-    subst (λ n. TakesStep n command answer SaysOf cells Stood StandsFor past since × Whole) same step
+pub at_block : {room : Room} {id other : ℕ} {command : Command} {answer : Answer} {SaysOf : Cell → Type 0} {cells : Cells} {Stood StandsFor : Knowledge → Cells → Type 0} {past since : ℕ → Files → Type 0} →
+    {Whole : Type 0} → id ≡ other → TakesStep room id command answer SaysOf cells Stood StandsFor past since × Whole → TakesStep room other command answer SaysOf cells Stood StandsFor past since × Whole
+at_block {room} {id} {other} {command} {answer} {SaysOf} {cells} {Stood} {StandsFor} {past} {since} {Whole} same step =
+    subst (λ n. TakesStep room n command answer SaysOf cells Stood StandsFor past since × Whole) same step
 
-pub at_block_steps : {id other : ℕ} {command : Command} {answer : Answer} {SaysOf : Cell → Type 0} {cells : Cells} {Stood StandsFor : Knowledge → Cells → Type 0} →
-    id ≡ other → StepsTo id command answer SaysOf cells Stood StandsFor → StepsTo other command answer SaysOf cells Stood StandsFor
-at_block_steps {id} {other} {command} {answer} {SaysOf} {cells} {Stood} {StandsFor} same step = subst (λ n. StepsTo n command answer SaysOf cells Stood StandsFor) same step
+pub at_block_steps : {room : Room} {id other : ℕ} {command : Command} {answer : Answer} {SaysOf : Cell → Type 0} {cells : Cells} {Stood StandsFor : Knowledge → Cells → Type 0} →
+    id ≡ other → StepsTo room id command answer SaysOf cells Stood StandsFor → StepsTo room other command answer SaysOf cells Stood StandsFor
+at_block_steps {room} {id} {other} {command} {answer} {SaysOf} {cells} {Stood} {StandsFor} same step = subst (λ n. StepsTo room n command answer SaysOf cells Stood StandsFor) same step
 
 -- what a crash can leave: of a tenure that takes a step, of a quiet one, and of none
-pub crash_takes : {id : ℕ} {command : Command} {answer : Answer} {SaysOf : Cell → Type 0} {cells : Cells} {Stood StandsFor : Knowledge → Cells → Type 0} {past since : ℕ → Files → Type 0} →
-    (both : TakesStep id command answer SaysOf cells Stood StandsFor past since × AddsOnly past since OneWhole) →
+pub crash_takes : {room : Room} {id : ℕ} {command : Command} {answer : Answer} {SaysOf : Cell → Type 0} {cells : Cells} {Stood StandsFor : Knowledge → Cells → Type 0} {past since : ℕ → Files → Type 0} →
+    (both : TakesStep room id command answer SaysOf cells Stood StandsFor past since × AddsOnly past since OneWhole) →
     CrashSafe cells (with_cell cells id both.0.to.cell) (Stood matching) (StandsFor matching) past since
 crash_takes both = record { images = both.0.images; sound = both.0.to.stands matching; sound_images = both.0.sound_images; whole = both.1 }
 
@@ -239,40 +244,48 @@ crash_only sound = record { images = λ t image s. inl s; sound = sound; sound_i
 module _ {Faulty : ℕ → ℕ → Type 0} {told : Option (List World)} {old : RunState} {before after : Mark} {id : ℕ} {command : Command} {reply : Reply} {StandsFor : RunState → Type 0}
     {Sound SoundNow : Cells → Type 0} {past since : ℕ → Files → Type 0} where
   -- a command that leaves the state as it was
-  pub carried_same : StandsFor old → CrashSafe old.cells old.cells Sound SoundNow past since → (answer : Answer) → ((trust : Trust) → IsKnown (Sound old.cells) trust told → Says trust (old.metas id) answer reply) →
-      Step unlimited (old.cells id) command answer (old.cells id) → (answer ≡ failed → FailsBy Faulty before after (old.writers id) (old.cells id) command (old.cells id)) →
+  pub carried_same : (asked : (room : Room) × RoomAsked command old.shares old.books room) → StandsFor old → CrashSafe old.cells old.cells Sound SoundNow past since → (answer : Answer) → ((trust : Trust) → IsKnown (Sound old.cells) trust told → Says trust (old.metas id) answer reply) →
+      Step asked.0 (old.cells id) command answer (old.cells id) → (answer ≡ failed → FailsBy Faulty before after (old.writers id) (old.cells id) command (old.cells id)) →
       (answer ≡ memory → old.cells id ≡ waiting → before.next_number < after.next_number) → begins_writer command answer ≡ false → MetasAfter command answer old.metas id (old.cells id) old.metas → (IsContent answer → LooksForTwo before after) →
-      CarriesOut Faulty told old before id command reply after StandsFor Sound SoundNow past since
-  carried_same stands crash answer says step fault lack begins metas looked = record {
+      BookStep command answer (old.cells id) (old.books id) (old.books id) → CarriesOut Faulty told old before id command reply after StandsFor Sound SoundNow past since
+  carried_same asked stands crash answer says step fault lack begins metas looked books = record {
     new = old;
     stands = stands;
     step = λ trust known. record {
       answer = answer;
       says = says trust known;
+      room = asked.0;
+      asked = asked.1;
+      shares = refl;
       cells = record { own = step; others = λ other apart. refl };
       fault = fault;
       lack = lack;
       looked = looked;
       metas = metas;
       writers = λ other. begins_none (begins_writer command answer) id other (given before after) (old.writers other) begins;
+      books = record { own = books; others = λ other apart. refl };
     };
     crash = crash;
   }
 
   -- a command that changes its block's cell
-  pub carried : (cell : Cell) (metas : Metas) (numbers : ℕ → Numbers) → StandsFor (record { cells = with_cell old.cells id cell; metas = metas; writers = numbers }) →
-      CrashSafe old.cells (with_cell old.cells id cell) Sound SoundNow past since → (answer : Answer) → ((trust : Trust) → IsKnown (Sound old.cells) trust told → Says trust (old.metas id) answer reply) → Step unlimited (old.cells id) command answer cell →
+  pub carried : (asked : (room : Room) × RoomAsked command old.shares old.books room) → (cell : Cell) (metas : Metas) (numbers : ℕ → Numbers) (books : ℕ → BlockBooks) →
+      StandsFor (record { cells = with_cell old.cells id cell; metas = metas; writers = numbers; books = books; shares = old.shares }) →
+      CrashSafe old.cells (with_cell old.cells id cell) Sound SoundNow past since → (answer : Answer) → ((trust : Trust) → IsKnown (Sound old.cells) trust told → Says trust (old.metas id) answer reply) → Step asked.0 (old.cells id) command answer cell →
       (answer ≡ failed → FailsBy Faulty before after (old.writers id) (old.cells id) command cell) → (answer ≡ memory → cell ≡ waiting → before.next_number < after.next_number) →
       ((other : ℕ) → numbers other ≡ (if begins_writer command answer && other == id then given before after else old.writers other)) → MetasAfter command answer old.metas id cell metas → (IsContent answer → LooksForTwo before after) →
-      CarriesOut Faulty told old before id command reply after StandsFor Sound SoundNow past since
-  carried cell metas numbers stands crash answer says step fault lack begins learns looked = record {
-    new = record { cells = with_cell old.cells id cell; metas = metas; writers = numbers };
+      BooksChange id (BookStep command answer cell) old.books books → CarriesOut Faulty told old before id command reply after StandsFor Sound SoundNow past since
+  carried asked cell metas numbers books stands crash answer says step fault lack begins learns looked change = record {
+    new = record { cells = with_cell old.cells id cell; metas = metas; writers = numbers; books = books; shares = old.shares };
     stands = stands;
     step = λ trust known. record {
       answer = answer;
       says = says trust known;
+      room = asked.0;
+      asked = asked.1;
+      shares = refl;
       cells = record {
-        own = subst (Step unlimited (old.cells id) command answer) (sym (with_cell-here old.cells id cell)) step;
+        own = subst (Step asked.0 (old.cells id) command answer) (sym (with_cell-here old.cells id cell)) step;
         others = λ other apart. with_cell-other old.cells id cell other apart;
       };
       fault = λ is. subst (FailsBy Faulty before after (old.writers id) (old.cells id) command) (sym (with_cell-here old.cells id cell)) (fault is);
@@ -280,22 +293,27 @@ module _ {Faulty : ℕ → ℕ → Type 0} {told : Option (List World)} {old : R
       looked = looked;
       metas = subst (λ c. MetasAfter command answer old.metas id c metas) (sym (with_cell-here old.cells id cell)) learns;
       writers = begins;
+      books = record { own = subst (λ c. BookStep command answer c (old.books id) (books id)) (sym (with_cell-here old.cells id cell)) change.own; others = change.others };
     };
     crash = crash;
   }
 
   -- a command that begins no writer, and after which more is known of meta files
-  pub carried_learning : (cell : Cell) (metas : Metas) → StandsFor (record { cells = with_cell old.cells id cell; metas = metas; writers = old.writers }) →
-      CrashSafe old.cells (with_cell old.cells id cell) Sound SoundNow past since → (answer : Answer) → ((trust : Trust) → IsKnown (Sound old.cells) trust told → Says trust (old.metas id) answer reply) → Step unlimited (old.cells id) command answer cell →
+  pub carried_learning : (asked : (room : Room) × RoomAsked command old.shares old.books room) → (cell : Cell) (metas : Metas) (books : ℕ → BlockBooks) →
+      StandsFor (record { cells = with_cell old.cells id cell; metas = metas; writers = old.writers; books = books; shares = old.shares }) →
+      CrashSafe old.cells (with_cell old.cells id cell) Sound SoundNow past since → (answer : Answer) → ((trust : Trust) → IsKnown (Sound old.cells) trust told → Says trust (old.metas id) answer reply) → Step asked.0 (old.cells id) command answer cell →
       (answer ≡ failed → FailsBy Faulty before after (old.writers id) (old.cells id) command cell) → (answer ≡ memory → cell ≡ waiting → before.next_number < after.next_number) →
-      begins_writer command answer ≡ false → MetasAfter command answer old.metas id cell metas → (IsContent answer → LooksForTwo before after) → CarriesOut Faulty told old before id command reply after StandsFor Sound SoundNow past since
-  carried_learning cell metas stands crash answer says step fault lack begins learns looked =
-      carried cell metas old.writers stands crash answer says step fault lack
-      (λ other. begins_none (begins_writer command answer) id other (given before after) (old.writers other) begins) learns looked
+      begins_writer command answer ≡ false → MetasAfter command answer old.metas id cell metas → (IsContent answer → LooksForTwo before after) →
+      BooksChange id (BookStep command answer cell) old.books books → CarriesOut Faulty told old before id command reply after StandsFor Sound SoundNow past since
+  carried_learning asked cell metas books stands crash answer says step fault lack begins learns looked change =
+      carried asked cell metas old.writers books stands crash answer says step fault lack
+      (λ other. begins_none (begins_writer command answer) id other (given before after) (old.writers other) begins) learns looked change
 
   -- a command that begins no writer
-  pub carried_on : (cell : Cell) → StandsFor (record { cells = with_cell old.cells id cell; metas = old.metas; writers = old.writers }) →
-      CrashSafe old.cells (with_cell old.cells id cell) Sound SoundNow past since → (answer : Answer) → ((trust : Trust) → IsKnown (Sound old.cells) trust told → Says trust (old.metas id) answer reply) → Step unlimited (old.cells id) command answer cell →
+  pub carried_on : (asked : (room : Room) × RoomAsked command old.shares old.books room) → (cell : Cell) (books : ℕ → BlockBooks) →
+      StandsFor (record { cells = with_cell old.cells id cell; metas = old.metas; writers = old.writers; books = books; shares = old.shares }) →
+      CrashSafe old.cells (with_cell old.cells id cell) Sound SoundNow past since → (answer : Answer) → ((trust : Trust) → IsKnown (Sound old.cells) trust told → Says trust (old.metas id) answer reply) → Step asked.0 (old.cells id) command answer cell →
       (answer ≡ failed → FailsBy Faulty before after (old.writers id) (old.cells id) command cell) → (answer ≡ memory → cell ≡ waiting → before.next_number < after.next_number) →
-      begins_writer command answer ≡ false → MetasAfter command answer old.metas id cell old.metas → (IsContent answer → LooksForTwo before after) → CarriesOut Faulty told old before id command reply after StandsFor Sound SoundNow past since
-  carried_on cell = carried_learning cell old.metas
+      begins_writer command answer ≡ false → MetasAfter command answer old.metas id cell old.metas → (IsContent answer → LooksForTwo before after) →
+      BooksChange id (BookStep command answer cell) old.books books → CarriesOut Faulty told old before id command reply after StandsFor Sound SoundNow past since
+  carried_on asked cell = carried_learning asked cell old.metas

@@ -40,9 +40,12 @@ pub record OpenWriter (told : Option (List World)) (books : ℕ → BlockBooks) 
   pub block_given : GivenBetween numbers.first numbers.last stands.block_number
   pub meta_given : GivenBetween numbers.first numbers.last stands.meta_number
 
--- disks, books and open writers stand for the state of a run: its cells, of which these are the meta files
-pub record Standing (told : Option (List World)) (volumes : ℕ) (books : ℕ → BlockBooks) (writers : ℕ → Option Writer) (state : RunState) : Type 0 where
+-- disks, books and open writers stand for the state of a run: its cells, of which these are the meta files, and what it
+-- says of the books and the shares
+pub record Standing (shares : List ℕ) (told : Option (List World)) (volumes : ℕ) (books : ℕ → BlockBooks) (writers : ℕ → Option Writer) (state : RunState) : Type 0 where
   pub pool : PoolStands told volumes books (exactly state.metas) state.cells
+  pub shared : state.shares ≡ shares
+  pub said : (id : ℕ) → state.books id ≡ books id
   pub writer : (id : ℕ) → IsBlockId id → MatchOption (writers id) (NotGrowing (state.cells id)) (OpenWriter told books id (state.cells id) (state.writers id))
 
 module _ {D S T R : Type 0} {g : Ghosts D S T R} {d : drafts.Ghosts T S} {s : sealed.Ghosts S} {r : readers.Ghosts R} where
@@ -57,7 +60,7 @@ module _ {D S T R : Type 0} {g : Ghosts D S T R} {d : drafts.Ghosts T S} {s : se
   -- a session stands for the state of a run
   abbrev pub SessionStands : Session D S T R g d s r → RunState → Type 0
   SessionStands session state =
-      Standing (g.worlds session.pool.disks) (g.volume_count session.pool.disks) (block_books session.pool.map) (open_writer session) state
+      Standing session.pool.shares.items (g.worlds session.pool.disks) (g.volume_count session.pool.disks) (block_books session.pool.map) (open_writer session) state
 
   -- a session stands for some state of a run
   abbrev pub SessionStandsForSome : Session D S T R g d s r → Type 0

@@ -16,6 +16,8 @@ pub fn refusal_of(fault: StartFault) -> Reply
         StartFault::Writing => Reply::Writing,
         StartFault::Waiting => Reply::Waiting,
         StartFault::Unsure => Reply::Unsure,
+        StartFault::Full { need, free } => Reply::Full { need, free },
+        StartFault::TooLong { limit } => Reply::TooLong { limit },
         StartFault::Failed => Reply::Failed,
         StartFault::Memory => Reply::Memory,
     }

@@ -20,7 +20,7 @@ impl<D: PoolDisks> Session<D> {
             SessionCarriesOut state id (start_write stamp need) result self.old self.new }
         ensures goes_on { GoesOn D.PoolDisks self.old.pool.disks self.new.pool.disks }
     {
-        if let Some(fault) = self.pool.write_refusal(id) {
+        if let Some(fault) = self.pool.write_refusal(id, need) {
             return refusal_of(fault);
         }
         match self.writers.make_room() {

@@ -21,7 +21,7 @@ impl<D: PoolDisks> Session<D> {
             SessionCarriesOut state id (write stamp piece.now) result self.old self.new }
         ensures goes_on { GoesOn D.PoolDisks self.old.pool.disks self.new.pool.disks }
     {
-        if let Some(fault) = self.pool.write_refusal(id) {
+        if let Some(fault) = self.pool.write_refusal(id, piece.len() as u64) {
             return refusal_of(fault);
         }
         let op = match write_start(alloc, &mut self.pool, id, stamp, piece.len() as u64) {
