@@ -42,9 +42,9 @@ pub never_judged : (fit later : Bool) (ending other : Ending) → IsJudged fit l
 never_judged fit later ending other j e = subst (λ (x : Ending). IsJudged fit later (Some x)) e j
 
 -- nothing was carried out for want of memory
-pub run_without : (Faulty : ℕ → ℕ → Type 0) (since : ℕ → Files → Type 0) (mark : Mark) (told : Option (List World)) (input taken taken' : Option (List ℕ)) (ending : Ending) (status : ℕ) → ending ≡ NoMemory → ((image : Files) → since mark.moment image → CanLeave told image) → Declines ending taken taken' status →
-    Runs Faulty since (CanLeave told) (record { entry = mark; exit = mark; told = told; input = input }) taken taken' status
-run_without Faulty since mark told input taken taken' ending status is only k = run_of Faulty since (CanLeave told) _ taken taken taken' NoMemory status
+pub run_without : (Faulty : ℕ → ℕ → Type 0) (since : ℕ → Files → Type 0) (mark : Mark) (told : Option (List World)) (shares : List ℕ) (input taken taken' : Option (List ℕ)) (ending : Ending) (status : ℕ) → ending ≡ NoMemory → ((image : Files) → since mark.moment image → CanLeave told image) → Declines ending taken taken' status →
+    Runs Faulty since (CanLeave told) (record { entry = mark; exit = mark; told = told; shares = shares; input = input }) taken taken' status
+run_without Faulty since mark told shares input taken taken' ending status is only k = run_of Faulty since (CanLeave told) _ taken taken taken' NoMemory status
     (record {
       shown = [];
       goes = inl (record {

@@ -67,11 +67,14 @@ goes_weaker Faulty since can_leave course ending shown goes = elim goes [
     mark = r.mark;
     turns = r.turns;
     opened = r.opened;
+    books = r.books;
     one_meta = r.one_meta;
     from_start = r.from_start;
     metas_from_start = r.metas_from_start;
+    waiting_from_start = r.waiting_from_start;
     counts = r.counts;
     follows = r.follows;
+    shares = r.shares;
     at_exit = ends_weaker course.input (turn_lines r.turns) ending (last_mark r.mark r.turns) course.exit r.read r.at_exit;
     read = told_weaker course.input (turn_lines r.turns) ending r.read;
     shows = shows_weaker (turn_replies r.turns) shown ending r.shows;
@@ -153,9 +156,9 @@ stop_of Faulty since can_leave course bytes ending shown status told goes is sou
 ]
 
 -- where the source tells its input, the status is that of the place where the script stops, or a cause is known
-pub stops_at : {A B C : Type 0} (Faulty : ℕ → ℕ → Type 0) (since : ℕ → Files → Type 0) (can_leave : Files → Type 0) (entry exit : Mark) (told : _) (input : Option (List ℕ)) (taken taken' : Option (List ℕ)) (status : ℕ) →
-    Runs Faulty since can_leave (record { entry = entry; exit = exit; told = told; input = input }) taken taken' status → (status ≡ 2 → A) → (status ≡ 3 → B) → (Rose entry.faults exit.faults → C) →
+pub stops_at : {A B C : Type 0} (Faulty : ℕ → ℕ → Type 0) (since : ℕ → Files → Type 0) (can_leave : Files → Type 0) (entry exit : Mark) (told : _) (shares : List ℕ) (input : Option (List ℕ)) (taken taken' : Option (List ℕ)) (status : ℕ) →
+    Runs Faulty since can_leave (record { entry = entry; exit = exit; told = told; shares = shares; input = input }) taken taken' status → (status ≡ 2 → A) → (status ≡ 3 → B) → (Rose entry.faults exit.faults → C) →
     IfSome input (λ bytes. (status ≡ status_at (script_of bytes).stop) ⊎ (status ≡ 4) ⊎ (status ≡ 8) ⊎ A ⊎ B ⊎ C)
-stops_at Faulty since can_leave entry exit told None taken taken' status r source sink disks = tt
-stops_at Faulty since can_leave entry exit told (Some bytes) taken taken' status r source sink disks =
+stops_at Faulty since can_leave entry exit told shares None taken taken' status r source sink disks = tt
+stops_at Faulty since can_leave entry exit told shares (Some bytes) taken taken' status r source sink disks =
     stop_of Faulty since can_leave _ bytes r.ending r.shown status refl r.goes r.ends.status_is (λ e two. source two) sink disks

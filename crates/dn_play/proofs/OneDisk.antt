@@ -2,6 +2,7 @@
 use Rattle.std.proofs.Common.{◌≡◌, ℕ, ◌≤◌, ◌&&◌, ◌==◌, nat_lt, nat_le, if◌then◌else◌, Bool, true, false, List, [], ◌∷◌, ◌++◌, length, All, map, Option, Some, None, option_and_then, refl, sym, ap, ◌∙◌, subst, arith}
 use Rattle.std.proofs.lemmas.Bool.{and_parts, or_parts, leb-true, ltb-false, eqb-true}
 use Rattle.std.proofs.lemmas.Option.{same_Some}
+use Rattle.std.proofs.lemmas.List.{length-map}
 use Rattle.std.proofs.lemmas.List.Splits.{length-slice_split}
 use Rattle.std.proofs.lemmas.List.Elements.{All-head, All-cons, All-nil}
 use Rattle.std.specs.List.{list_all, slice_split}
@@ -10,7 +11,7 @@ use Rattle.script_lang.specs.NodeWords.{NodeSaid, node_of, node_name_of, pools_o
 use Rattle.script_lang.specs.Volumes.{volumes_of, each_volume_of, node_volumes, is_count, are_apart}
 use Rattle.script_lang.specs.declared.volume_word.VolumeWord.{VolumeWord}
 use Rattle.run_end.specs.declared.ending.Ending.{Ending}
-use Rattle.dn_play.specs.Outside.{fit_disks, words_fit, names_several, words_are_later, IsJudged}
+use Rattle.dn_play.specs.Outside.{shares_said, shares_in, fit_disks, words_fit, names_several, words_are_later, IsJudged}
 
 some_pools : (word : List ℕ) (names : List (List ℕ)) → pools_of word ≡ Some names → 1 ≤ length names
 unfolding pools_of
@@ -71,16 +72,20 @@ module _ {D : Type 0} (volume_count : D → ℕ) where
   of_list volumes (d ∷ []) e all one = record { disk = d; only = refl; one_volume = eqb-true (volume_count d) volumes (and_parts (volume_count d == volumes) true all).0 ∙ one }
   of_list volumes (d ∷ f ∷ more) e all one = absurd (omega (arith, e))
 
+  one_said : (said : NodeSaid) → NamesSome said → names_several said ≡ false → length said.volumes ≡ 1
+  one_said said some one =
+      let apart = or_parts (nat_lt 1 (length said.pools)) (nat_lt 1 (length said.volumes)) one in
+      let few_volumes = ltb-false 1 (length said.volumes) apart.1 in
+      omega (arith, few_volumes, some.1)
+
   of_said : (disks : List D) (said : NodeSaid) → NamesSome said → fit_disks volume_count disks said ≡ true → names_several said ≡ false → OneDisk volume_count disks
   of_said disks said some fit one =
       let parts = and_parts (length said.pools == length disks) (list_all (λ d. volume_count d == length said.volumes) disks) fit in
       let apart = or_parts (nat_lt 1 (length said.pools)) (nat_lt 1 (length said.volumes)) one in
       let same = eqb-true (length said.pools) (length disks) parts.0 in
       let few_pools = ltb-false 1 (length said.pools) apart.0 in
-      let few_volumes = ltb-false 1 (length said.volumes) apart.1 in
       let one_pool : length disks ≡ 1 = omega (arith, same, few_pools, some.0) in
-      let one_volume : length said.volumes ≡ 1 = omega (arith, few_volumes, some.1) in
-      of_list (length said.volumes) disks one_pool parts.1 one_volume
+      of_list (length said.volumes) disks one_pool parts.1 (one_said said some one)
 
   pub one_disk : (words : List (List ℕ)) (disks : List D) → words_fit volume_count words disks ≡ true → words_are_later words ≡ false → OneDisk volume_count disks
   one_disk words disks fit later = by_cases (node_of words) refl fit later
@@ -88,6 +93,14 @@ module _ {D : Type 0} (volume_count : D → ℕ) where
       by_cases : (said : Option NodeSaid) → node_of words ≡ said → option_map_or (fit_disks volume_count disks) said false ≡ true → option_map_or names_several said false ≡ false → OneDisk volume_count disks
       by_cases None is fits one = absurd (cc fits)
       by_cases (Some said) is fits one = of_said disks said (names_some words said is) fits one
+
+  -- the words say one share
+  pub one_share : (words : List (List ℕ)) (disks : List D) → words_fit volume_count words disks ≡ true → words_are_later words ≡ false → length (shares_in words) ≡ 1
+  one_share words disks fit later = by_cases (node_of words) refl fit later
+    where
+      by_cases : (said : Option NodeSaid) → node_of words ≡ said → option_map_or (fit_disks volume_count disks) said false ≡ true → option_map_or names_several said false ≡ false → length (option_map_or shares_said said []) ≡ 1
+      by_cases None is fits one = absurd (cc fits)
+      by_cases (Some said) is fits one = length-map said.volumes (λ volume. volume.share) ∙ one_said said (names_some words said is) one
 
   -- the same of the disks as they were lent
   pub one_disk_lent : (words : List (List ℕ)) (lent disks : List D) → lent ≡ disks → words_fit volume_count words lent ≡ true → words_are_later words ≡ false → OneDisk volume_count disks

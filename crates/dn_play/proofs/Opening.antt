@@ -19,14 +19,17 @@ use Rattle.map_model.specs.Copies.{BlockFiles, block_files}
 use Rattle.map_model.specs.Allows.{Allows, AllowsImage}
 use Rattle.map_model.specs.Openings.{LeavesBlockFile, WaitsExactly, MakesCells, shown_files, ReadsAlike}
 use Rattle.map_model.specs.Sound.{matching, exactly, Fits, HasSoundCopies, IsSound}
+use Rattle.map_model.specs.Slots.{view_of}
 use Rattle.map_model.specs.Stands.{BlockBooks}
 use Rattle.pool_state.specs.Stands.{PoolStands}
 use Rattle.pool_open.specs.declared.opening.OpenFault.{OpenFault}
+use Rattle.pool_open.specs.Waiting.{WaitsAs}
 use Rattle.pool_open.specs.Outcome.{HoldsImage, HasTwoMetas, HasSoundFiles, ReadsAsOne, IsOpened, Opens, fault_disks}
 use Rattle.run_end.specs.declared.ending.Ending.{Ending}
 use Rattle.run_end.specs.declared.ending.Ending.TheVariants.{OpenFault as OpenFailed, NotCarriedOut}
 use Rattle.run_end.specs.Ending.{status_of}
 use Rattle.run_end.specs.Closing.{Writes}
+use Rattle.run_model.specs.Books.{BooksOpened}
 use Rattle.run_model.specs.Carrying.{LeavesAllowed}
 use Rattle.dn_play.specs.Answer.{Played, IsOfLines}
 use Rattle.dn_play.specs.Play.{Course, IsBeforeOpened, ReadsAlikeUpTo, RunsPool}
@@ -84,8 +87,8 @@ sound_start told start holds sound world is = subst HasSoundFiles (only_fresh to
 
 module _ {D S T R : Type 0} (g : Ghosts D S T R) (Faulty : ℕ → ℕ → Type 0)
     (before : D) (only_now : (image : Files) → g.left_since before (g.moment before) image → CanLeave (g.worlds before) image) where
-  abbrev course_between : D → Option (List ℕ) → Course
-  course_between after input = record { entry = mark_of g before; exit = mark_of g after; told = g.worlds before; input = input }
+  abbrev course_between : D → (shares : List ℕ) → Option (List ℕ) → Course
+  course_between after shares input = record { entry = mark_of g before; exit = mark_of g after; told = g.worlds before; shares = shares; input = input }
 
   -- what the opening shows reads as the start
   reads_start : (after : D) (start : Files) → HoldsImage (g.worlds before) start → AddsOnly (g.left_since before) (g.left_since after) (ReadsAsOne (g.worlds before)) →
@@ -104,15 +107,15 @@ module _ {D S T R : Type 0} (g : Ghosts D S T R) (Faulty : ℕ → ℕ → Type 
   ]
 
   -- nothing was carried out
-  pub stops_so : (out known : D) (fault : OpenFault D) (input taken : Option (List ℕ)) (ending : Ending) → out ≡ known → fault_disks fault ≡ known →
+  pub stops_so : (out known : D) (fault : OpenFault D) (shares : List ℕ) (input taken : Option (List ℕ)) (ending : Ending) → out ≡ known → fault_disks fault ≡ known →
       GoesOn g before (fault_disks fault) → IsBeforeOpened ending → Writes (status_of ending) taken taken [] →
       (ending ≡ OpenFailed → Rose (g.faults before) (g.faults known)) → (ending ≡ NotCarriedOut → (image : Files) → HoldsImage (g.worlds before) image → HasTwoMetas image) →
       AddsOnly (g.left_since before) (g.left_since (fault_disks fault)) (ReadsAsOne (g.worlds before)) →
-      RunsPool Faulty (g.left_since out) (CanLeave (g.worlds out)) (course_between out input) taken taken ending
-  stops_so out known fault input taken ending is of_fault on early written open_fault later images =
+      RunsPool Faulty (g.left_since out) (CanLeave (g.worlds out)) (course_between out shares input) taken taken ending
+  stops_so out known fault shares input taken ending is of_fault on early written open_fault later images =
       let went : GoesOn g before known = subst (GoesOn g before) of_fault on in
       let reads : AddsOnly (g.left_since before) (g.left_since known) (ReadsAsOne (g.worlds before)) = subst (λ (d : D). AddsOnly (g.left_since before) (g.left_since d) (ReadsAsOne (g.worlds before))) of_fault images in
-      subst (λ d. RunsPool Faulty (g.left_since d) (CanLeave (g.worlds d)) (course_between d input) taken taken ending) (sym is) (record {
+      subst (λ d. RunsPool Faulty (g.left_since d) (CanLeave (g.worlds d)) (course_between d shares input) taken taken ending) (sym is) (record {
         shown = [];
         goes = inl (record {
           is_before = early;
@@ -128,14 +131,14 @@ module _ {D S T R : Type 0} (g : Ghosts D S T R) (Faulty : ℕ → ℕ → Type 
 
   -- the lines were carried out
   pub runs_so : (mid after out : D) {volumes : ℕ} {books : ℕ → BlockBooks} {SoundNow : Cells → Type 0}
-      (input taken taken' : Option (List ℕ)) (ending : Ending) → out ≡ after → GoesOn g before mid →
-      (opens : Opens (g.worlds before) (g.worlds mid) volumes books (g.left_since before) (g.left_since mid)) →
-      Played Faulty (g.worlds mid) (first_of opens.cells opens.metas) (mark_of g mid) (mark_of g after) input taken taken' ending
+      (shares given : List ℕ) → shares ≡ given → (input taken taken' : Option (List ℕ)) (ending : Ending) → out ≡ after → GoesOn g before mid →
+      (opens : Opens (g.worlds before) (g.worlds mid) volumes books (g.left_since before) (g.left_since mid)) → ((id : ℕ) → IsBlockId id → BooksOpened (opens.cells id) (books id)) →
+      Played Faulty (g.worlds mid) (first_of opens.cells opens.metas books shares) (mark_of g mid) (mark_of g after) input taken taken' ending
       (LeavesAllowed (g.worlds after)) (PoolStands (g.worlds mid) volumes books matching) SoundNow (g.left_since mid) (g.left_since after) → IsOfLines ending →
       ((image : Files) → HoldsImage (g.worlds before) image → HasTwoMetas image → ⊥) → AddsOnly (g.left_since before) (g.left_since mid) (ReadsAsOne (g.worlds before)) →
       (ending ≡ NotCarriedOut → (image : Files) → CanLeave (g.worlds after) image → HasTwoMetas image) →
-      RunsPool Faulty (g.left_since out) (CanLeave (g.worlds out)) (course_between out input) taken taken' ending
-  runs_so mid after out {volumes} {books} {SoundNow} input taken taken' ending is went opens p of_lines one_meta meanwhile later =
+      RunsPool Faulty (g.left_since out) (CanLeave (g.worlds out)) (course_between out given input) taken taken' ending
+  runs_so mid after out {volumes} {books} {SoundNow} shares given same_shares input taken taken' ending is went opens said p of_lines one_meta meanwhile later =
       let since_opening : (start : Files) → HoldsImage (g.worlds before) start → ReadsAlikeUpTo (g.left_since after) (mark_of g before) (mark_of g mid) start = λ start holds image s.
       elim (p.crash.passes.adds (g.moment before) image s) [
         | inl earlier ↦ inl (reads_start mid start holds meanwhile image earlier)
@@ -144,18 +147,23 @@ module _ {D S T R : Type 0} (g : Ghosts D S T R) (Faulty : ℕ → ℕ → Type 
       let made : (start : Files) → HoldsImage (g.worlds before) start → MakesCells (block_files start) opens.cells = λ start holds.
       let shows = opens.shown (tells (g.worlds before) start holds) in
       shown_start (g.worlds before) start shows.world holds shows.is (λ files. MakesCells files opens.cells) shows.made in
-      subst (λ d. RunsPool Faulty (g.left_since d) (CanLeave (g.worlds d)) (course_between d input) taken taken' ending) (sym is) (record {
+      subst (λ d. RunsPool Faulty (g.left_since d) (CanLeave (g.worlds d)) (course_between d given input) taken taken' ending) (sym is) (record {
         shown = p.shown;
         goes = inr (record {
-          first = first_of opens.cells opens.metas;
+          first = first_of opens.cells opens.metas books shares;
           mark = mark_of g mid;
           turns = p.turns;
           opened = opens.opened;
+          books = said;
+          shares = same_shares;
           one_meta = one_meta;
           from_start = made;
           metas_from_start = λ start holds.
               let shows = opens.shown (tells (g.worlds before) start holds) in
               shown_start (g.worlds before) start shows.world holds shows.is (λ files. (id : ℕ) → IsBlockId id → HasSoundCopies (Fits (exactly opens.metas) id) (files id)) shows.metas_are;
+          waiting_from_start = λ start holds id valid waits.
+              let shows = opens.shown (tells (g.worlds before) start holds) in
+              subst (λ (w : World). WaitsAs (view_of w id) (books id)) (sym (only_fresh (g.worlds before) start holds shows.world shows.is)) (shows.waiting id valid waits);
           counts = counts_on went;
           follows = λ trust known. p.follows trust (known_on trust (g.worlds before) (g.worlds mid) went.honest.0
               (λ begins. opens.stands_by matching (sound_start (g.worlds before) begins.0 begins.1 begins.2)) known);
@@ -164,14 +172,14 @@ module _ {D S T R : Type 0} (g : Ghosts D S T R) (Faulty : ℕ → ℕ → Type 
           shows = p.shows;
           of_lines = of_lines;
           images = λ start holds image s. elim (since_opening start holds image s) [
-            | inl alike ↦ first_allowed (first_of opens.cells opens.metas) p.turns image (start_allows (block_files start) opens.cells image opens.opened (made start holds) alike)
-            | inr later ↦ each_allowed (g.left_since after) (mark_of g mid) (first_of opens.cells opens.metas) p.turns image p.crash.each later
+            | inl alike ↦ first_allowed (first_of opens.cells opens.metas books shares) p.turns image (start_allows (block_files start) opens.cells image opens.opened (made start holds) alike)
+            | inr later ↦ each_allowed (g.left_since after) (mark_of g mid) (first_of opens.cells opens.metas books shares) p.turns image p.crash.each later
           ];
           images_opening = since_opening;
           images_each = p.crash.each;
           images_at_exit = λ image leaves. (p.stands image leaves).0;
           whole_at_exit = λ image leaves. (p.stands image leaves).1;
-          whole = λ image s. each_whole (g.left_since after) (mark_of g mid) (first_of opens.cells opens.metas) p.turns image p.crash.each s;
+          whole = λ image s. each_whole (g.left_since after) (mark_of g mid) (first_of opens.cells opens.metas books shares) p.turns image p.crash.each s;
           later = later;
           sound = λ start holds sound image s.
               let worlds_are = sound_start (g.worlds before) start holds sound in

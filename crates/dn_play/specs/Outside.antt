@@ -1,5 +1,5 @@
 -- What the words of a run say of its disks.
-use Rattle.std.specs.Prelude.{ℕ, ◌≡◌, Bool, true, false, ◌&&◌, ◌||◌, ◌==◌, nat_lt, List, length, Option, None, Some, ⊤}
+use Rattle.std.specs.Prelude.{ℕ, ◌≡◌, Bool, true, false, ◌&&◌, ◌||◌, ◌==◌, nat_lt, List, [], length, map, Option, None, Some, Result, Ok, Err, ⊤}
 use Rattle.std.specs.List.{list_all}
 use Rattle.std.specs.Option.{option_map_or}
 use Rattle.script_lang.specs.NodeWords.{NodeSaid, node_of}
@@ -21,6 +21,18 @@ names_several said = nat_lt 1 (length said.pools) || nat_lt 1 (length said.volum
 -- whether the words name several pools or volumes
 abbrev pub words_are_later : List (List ℕ) → Bool
 words_are_later words = option_map_or names_several (node_of words) false
+
+-- the shares of the volumes, by their numbers
+abbrev pub shares_said : NodeSaid → List ℕ
+shares_said said = map (λ volume. volume.share) said.volumes
+
+abbrev pub shares_in : List (List ℕ) → List ℕ
+shares_in words = option_map_or shares_said (node_of words) []
+
+-- the fault of a result
+abbrev pub err_of : {T E : Type 0} → Result T E → Option E
+err_of (Ok value) = None
+err_of (Err fault) = Some fault
 
 -- how a run ends whose words aren't carried out: they don't fit, or name several pools or volumes, or there is no
 -- memory to read them

@@ -9,10 +9,13 @@ use Rattle.disk_model.specs.Told.{CanLeave}
 use Rattle.disk_model.specs.Causes.{Rose}
 use Rattle.disk_model.specs.Marks.{Mark, IsLater, faulty_of, mark_of}
 use Rattle.volume_layout.specs.Paths.{IsBlockId}
+use Rattle.map_model.specs.Cells.{waiting}
 use Rattle.map_model.specs.Copies.{block_files, OneWhole}
 use Rattle.map_model.specs.Allows.{AllowsImage}
 use Rattle.map_model.specs.Openings.{MakesCells, ReadsAlike}
+use Rattle.map_model.specs.Slots.{view_of}
 use Rattle.map_model.specs.Sound.{exactly, Fits, IsSoundBy, IsSound}
+use Rattle.pool_open.specs.Waiting.{WaitsAs}
 use Rattle.pool_open.specs.Outcome.{HoldsImage, HasTwoMetas, IsOpened}
 use Rattle.script_lang.specs.declared.reply.Reply.{Reply}
 use Rattle.run_end.specs.declared.ending.Ending.{Ending}
@@ -20,6 +23,7 @@ use Rattle.run_end.specs.declared.ending.Ending.TheVariants.{NoMemory, OpenFault
 use Rattle.run_end.specs.Ending.{status_of}
 use Rattle.run_end.specs.Closing.{Writes, Ends}
 use Rattle.run_model.specs.State.{RunState, Turn, turn_lines, turn_replies, last_state, last_mark}
+use Rattle.run_model.specs.Books.{BooksOpened}
 use Rattle.run_model.specs.Commands.{Trust}
 use Rattle.run_model.specs.Lines.{Follows}
 use Rattle.run_model.specs.Images.{AllowedSince, AllowedByEach}
@@ -27,12 +31,13 @@ use Rattle.run_model.specs.Carrying.{IsKnown}
 use Rattle.dn_play.specs.Endings.{Reads, Shows, text_of}
 use Rattle.dn_play.specs.Answer.{IsOfLines, EndsAt, NextReopens}
 
--- what a run is given and leaves: its disks' counts at the entry and at the exit, what they told at the entry, and its
--- input
+-- what a run is given and leaves: its disks' counts at the entry and at the exit, what they told at the entry, its share
+-- of each volume, and its input
 pub record Course : Type 0 where
   pub entry : Mark
   pub exit : Mark
   pub told : Option (List World)
+  pub shares : List ℕ
   pub input : Option (List ℕ)
 
 -- the disks tell one image, in which the meta file of each copy that is read matches its bytes
@@ -62,21 +67,25 @@ ReadsAlikeUpTo since from to start = (image : Files) → since from.moment image
 
 -- The opening was done. Then lines of the script were carried out, in order, whatever is known of the disks. Where the
 -- disks tell one image at the entry, the first cells are what an opening makes of it, and the meta files those of its
--- copies. What a crash could leave from the entry on reads as that image, or could be left since the opening's end;
--- what it could leave since a line's beginning, the cells before or after that line allow, or it could be left since
--- the line's end; what it could leave since the last line's end, the cells after it allow, and so does each image that
--- can be left at the exit. Of each block that has a copy in an image that a crash could leave since the opening's end,
--- one whole copy stands alone. Where the image at the entry is sound, so is each that a crash could leave since then.
--- The run may end at an opening again that isn't done; where that is because two metas of a block stand, they stand in
--- each image that can be left.
+-- copies; the first books of a block that waits are by the files that stand of it there. What a crash could leave from
+-- the entry on reads as that image, or could be left since the opening's end; what it could leave since a line's
+-- beginning, the cells before or after that line allow, or it could be left since the line's end; what it could leave
+-- since the last line's end, the cells after it allow, and so does each image that can be left at the exit. Of each
+-- block that has a copy in an image that a crash could leave since the opening's end, one whole copy stands alone.
+-- Where the image at the entry is sound, so is each that a crash could leave since then. The run may end at an opening
+-- again that isn't done; where that is because two metas of a block stand, they stand in each image that can be left.
 pub record RunsLines (Faulty : ℕ → ℕ → Type 0) (since : ℕ → Files → Type 0) (can_leave : Files → Type 0) (course : Course) (ending : Ending) (shown : List Reply) : Type 0 where
   pub first : RunState
   pub mark : Mark
   pub turns : List Turn
   pub opened : (id : ℕ) → IsBlockId id → IsOpened (first.cells id)
+  pub books : (id : ℕ) → IsBlockId id → BooksOpened (first.cells id) (first.books id)
+  pub shares : first.shares ≡ course.shares
   pub one_meta : (start : Files) → HoldsImage course.told start → HasTwoMetas start → ⊥
   pub from_start : (start : Files) → HoldsImage course.told start → MakesCells (block_files start) first.cells
   pub metas_from_start : (start : Files) → HoldsImage course.told start → IsSoundBy (Fits (exactly first.metas)) start
+  pub waiting_from_start : (start : Files) → HoldsImage course.told start →
+      (id : ℕ) → IsBlockId id → first.cells id ≡ waiting → WaitsAs (view_of (record { settled = start; drafts = [] }) id) (first.books id)
   pub counts : IsLater course.entry mark
   pub follows : (trust : Trust) → IsKnown (BeginsSound course.told) trust course.told → Follows trust Faulty first mark turns
   pub at_exit : EndsAt (NextReopens course.input (turn_lines turns)) ending (last_mark mark turns) course.exit
@@ -111,18 +120,18 @@ pub record Runs (Faulty : ℕ → ℕ → Type 0) (since : ℕ → Files → Typ
 
 module _ {D S T R : Type 0} (g : Ghosts D S T R) (d : drafts.Ghosts T S) (r : readers.Ghosts R) where
   -- what a run over these disks is given and leaves
-  abbrev pub course_of : (input : Option (List ℕ)) → (old new : D) → Course
-  course_of input old new = record { entry = mark_of g old; exit = mark_of g new; told = g.worlds old; input = input }
+  abbrev pub course_of : (shares : List ℕ) (input : Option (List ℕ)) → (old new : D) → Course
+  course_of shares input old new = record { entry = mark_of g old; exit = mark_of g new; told = g.worlds old; shares = shares; input = input }
 
   -- a run over these disks up to its last line
-  abbrev pub RunsPoolOver : (input taken taken' : Option (List ℕ)) → Ending → (old new : D) → Type 0
-  RunsPoolOver input taken taken' ending old new =
-      RunsPool (faulty_of d r) (g.left_since new) (CanLeave (g.worlds new)) (course_of input old new) taken taken' ending
+  abbrev pub RunsPoolOver : (shares : List ℕ) (input taken taken' : Option (List ℕ)) → Ending → (old new : D) → Type 0
+  RunsPoolOver shares input taken taken' ending old new =
+      RunsPool (faulty_of d r) (g.left_since new) (CanLeave (g.worlds new)) (course_of shares input old new) taken taken' ending
 
   -- a run over these disks
-  abbrev pub RunsOver : (input taken taken' : Option (List ℕ)) → (status : ℕ) → (old new : D) → Type 0
-  RunsOver input taken taken' status old new =
-      Runs (faulty_of d r) (g.left_since new) (CanLeave (g.worlds new)) (course_of input old new) taken taken' status
+  abbrev pub RunsOver : (shares : List ℕ) (input taken taken' : Option (List ℕ)) → (status : ℕ) → (old new : D) → Type 0
+  RunsOver shares input taken taken' status old new =
+      Runs (faulty_of d r) (g.left_since new) (CanLeave (g.worlds new)) (course_of shares input old new) taken taken' status
 
 -- a list of one, before and after, and what holds of the two
 pub record OfOne {D : Type 0} (old new : List D) (P : D → D → Type 0) : Type 0 where

@@ -7,7 +7,7 @@ ghost use Rattle.map_model.specs.World.{DraftsAside};
 ghost use Rattle.run_end.specs.Closing.{Declines};
 ghost use Rattle.run_model.specs.Script.{script_of};
 ghost use Rattle.dn_play.specs.Endings.{status_at};
-ghost use Rattle.dn_play.specs.Outside.{words_fit, words_are_later};
+ghost use Rattle.dn_play.specs.Outside.{words_fit, words_are_later, shares_in};
 ghost use Rattle.dn_play.specs.Play.{RunsOver, OfOne};
 
 use crate::pool_run::play_pool;
@@ -45,10 +45,10 @@ pub fn play<D: PoolDisks, S: Source, K: Sink>(
     // So are words that name several pools or volumes, as long as these aren't carried out.
     ensures later { words_fit D.volume_count (map string_bytes words.now) disks.items ≡ true → words_are_later (map string_bytes words.now) ≡ true →
         Declines Ending.NotCarriedOut (K.taken sink.old) (K.taken sink.new) result.status × (source.new ≡ source.old) × (result.disks.items ≡ disks.items) }
-    // Otherwise the pool is opened, and the lines of the script are carried out.
+    // Otherwise the pool is opened, with the shares that the words say, and the lines of the script are carried out.
     ensures run { words_fit D.volume_count (map string_bytes words.now) disks.items ≡ true → words_are_later (map string_bytes words.now) ≡ false →
         OfOne disks.items result.disks.items (λ before after. RunsOver D.PoolDisks D.Draft.Draft D.Reader.Reader
-        (S.left source.old) (K.taken sink.old) (K.taken sink.new) result.status before after) }
+        (shares_in (map string_bytes words.now)) (S.left source.old) (K.taken sink.old) (K.taken sink.new) result.status before after) }
     ensures at_end { result.status ≡ 0 → IsAtEnd (S.left source.new) }
     ensures source_fault { result.status ≡ 2 → Rose (S.faults source.old) (S.faults source.new) }
     ensures sink_fault { result.status ≡ 3 → Rose (K.faults sink.old) (K.faults sink.new) }
@@ -61,16 +61,17 @@ pub fn play<D: PoolDisks, S: Source, K: Sink>(
     // As many disks come back, with their volumes.
     ensures volumes { map D.volume_count result.disks.items ≡ map D.volume_count disks.items }
 {
-    if let Some(ending) = judge_words(alloc, words, disks.as_slice()) {
-        return Played {
+    let shares = match judge_words(alloc, words, disks.as_slice()) {
+        Ok(shares) => shares,
+        Err(ending) => return Played {
             status: close(alloc, ending, sink),
             disks,
-        };
-    }
+        },
+    };
     let Some(disk) = disks.pop() else {
         unreachable!()
     };
-    let run = play_pool(alloc, disk, source, sink);
+    let run = play_pool(alloc, disk, shares, source, sink);
     let status = close(alloc, run.ending, sink);
     let Ok(()) = disks.push(run.disks) else {
         unreachable!()

@@ -1,5 +1,5 @@
 //! A script over the disks of one pool, up to the last line of the output.
-ghost use Rattle.std.specs.Prelude.{◌≡◌, ◌≤◌};
+ghost use Rattle.std.specs.Prelude.{◌≡◌, ◌≤◌, length};
 ghost use Rattle.std.specs.Io.KnownBytes.{IsAtEnd};
 ghost use Rattle.disk_model.specs.Causes.{Rose};
 ghost use Rattle.disk_model.specs.Told.{InEachWorld};
@@ -21,24 +21,26 @@ pub struct PoolRun<D: Drop> {
     pub disks: D,
 }
 
-/// Opens the pool of these disks, and carries out the lines of the source.
+/// Opens the pool of these disks, with these shares of its volumes, and carries out the lines of the source.
 pub fn play_pool<D: PoolDisks, S: Source, K: Sink>(
     alloc: Global,
     disks: D,
+    shares: Vec<u64>,
     source: &mut S,
     sink: &mut K,
 ) -> PoolRun<D>
     requires aside { InEachWorld (D.worlds disks) DraftsAside }
     requires one_volume { D.volume_count disks ≡ 1 }
+    requires shares { length shares.items ≡ D.volume_count disks }
     ensures runs { RunsPoolOver D.PoolDisks D.Draft.Draft D.Reader.Reader
-        (S.left source.old) (K.taken sink.old) (K.taken sink.new) result.ending disks result.disks }
+        shares.items (S.left source.old) (K.taken sink.old) (K.taken sink.new) result.ending disks result.disks }
     ensures at_end { result.ending ≡ Ending.Complete → IsAtEnd (S.left source.new) }
     ensures source { result.ending ≡ Ending.SourceFault → Rose (S.faults source.old) (S.faults source.new) }
     ensures sink { result.ending ≡ Ending.SinkFault → Rose (K.faults sink.old) (K.faults sink.new) }
     ensures later_sink { K.faults sink.old ≤ K.faults sink.new }
     ensures volumes { D.volume_count result.disks ≡ D.volume_count disks }
 {
-    let pool = match open_pool(alloc, disks) {
+    let pool = match open_pool(alloc, disks, shares) {
         Ok(pool) => pool,
         Err(OpenFault::Failed(disks)) => return PoolRun {
             ending: Ending::OpenFault,

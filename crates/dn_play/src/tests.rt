@@ -10,7 +10,7 @@ use std::alloc::{AllocError, Global};
 use std::process::Abort;
 use std::test::Fail;
 
-pub(crate) const WORDS: &str = "bp1 DN-1 DS-1:1000:v1";
+pub(crate) const WORDS: &str = "bp1 DN-1 DS-1:1000000:v1";
 
 // The empty disks of one pool.
 #[tactic(auto, using(crate::proofs::OneDisk::holds_of_one))]
@@ -125,6 +125,33 @@ fn other_words_are_refused(rt: HostRuntime) -> Result<(), Fail> {
         let (status, shown) = played(alloc, words, volumes, source, MemSink::make(alloc))?;
         assert_eq!(rt; status, want, "of {words}");
         assert_eq!(rt; shown.as_slice(), shown_text.as_bytes(), "of {words}");
+    }
+    Ok(())
+}
+
+// Lengths of replicas and what open writers reserved count; what is deleted or dropped counts no longer.
+#[test]
+fn starts_are_refused_for_room(rt: HostRuntime) -> Result<(), Fail> {
+    let alloc = rt.alloc();
+    for (script, replies) in [
+        (
+            "open 5 1001 11\nopen 5 1001 134217729\nopen 5 1001 10\nopen 5 1001 11\nopen 6 1001 1\nopen 6 1001 0\n",
+            "full 11 10\ntoolong 134217728\nok\nwriting\nfull 1 0\nok\n",
+        ),
+        (
+            "open 5 1001 10\npush 5 61\nfinish 5\nwrite 6 1 61616161616161616161\nwrite 6 1 616161616161616161\ndelete 5\nopen 7 1 2\nopen 7 1 1\n",
+            "ok\nok\nok\nfull 10 9\nok\nok\nfull 2 1\nok\n",
+        ),
+        (
+            "open 5 1001 4\npush 5 616263\nopen 6 1 7\nopen 6 1 6\ndrop 5\nopen 7 1 5\nopen 7 1 4\n",
+            "ok\nok\nfull 7 6\nok\nok\nfull 5 4\nok\n",
+        ),
+    ] {
+        let source = MemSource::make(script.as_bytes().to_vec(alloc)?);
+        let words = "bp1 DN-1 DS-1:10:v1";
+        let (status, shown) = played(alloc, words, 1, source, MemSink::make(alloc))?;
+        assert_eq!(rt; status, 0, "of {script}");
+        assert_eq!(rt; shown.as_slice(), replies.as_bytes(), "of {script}");
     }
     Ok(())
 }
