@@ -8,9 +8,10 @@ seeds from N on (0 where none is given) four random scripts run one after the ot
 is compared; then three scripts are killed at a random moment, and what the next run reads is compared: all that was
 answered stands, and only the block of the line that was cut off may stand before or after that line. Between two
 scripts some files of replicas are spoilt, so that reads answer verdicts, and each meta file that the program wrote is
-compared with checksums made here. With --seconds no seed but the first begins later than that; without COUNT all begin
-that do by then. It ends with a line of what was run, or with the first difference and status 1; the directory, in
-`crates/dnplay/out`, is left as it was found then.
+compared with checksums made here. Each seed has its own share of the volume, so that starts are refused for room. With
+--seconds no seed but the first begins later than that; without COUNT all begin that do by then. It ends with a line of
+what was run, or with the first difference and status 1; the directory, in `crates/dnplay/out`, is left as it was found
+then.
 """
 
 import argparse
@@ -27,7 +28,9 @@ import time
 CRATE = pathlib.Path(__file__).resolve().parent.parent / "crates" / "dnplay"
 PROGRAM = CRATE / "out" / "dnplay"
 DIRECTORY = CRATE / "out" / f"reference-{os.getpid()}"
-COMMAND = [str(PROGRAM), "bp1", "DN-1", f"DS-1:1000:{DIRECTORY}"]
+# the bytes that the pool may use, and the most that a block has
+SHARES = [40, 1000, 3000, 10**6, 2**50]
+MOST = 134217728
 # how long one run may take, in seconds
 LIMIT = 30
 IDS = ["1", "2", "3", "70000", str(2**63 - 1)]
@@ -86,20 +89,29 @@ def verdict_of(meta, content):
 
 
 class Reference:
-    """What a client sees of each block: final, written, or waiting to be deleted; and the spoilt meta files."""
+    """What a client sees of each block: final, written, or waiting to be deleted, with the length of its block files; the
+    spoilt meta files; and the pool's share of its volume."""
 
-    def __init__(self):
+    def __init__(self, share):
+        self.share = share
         self.spoilt = {}
         self.final = {}
         self.written = {}
-        self.waiting = set()
+        self.waiting = {}
 
-    def refusal(self, block):
+    def refusal(self, block, need):
         if block in self.final:
             return "exists"
         if block in self.written:
             return "writing"
-        return "waiting" if block in self.waiting else None
+        if block in self.waiting:
+            return "waiting"
+        if need > MOST:
+            return f"toolong {MOST}"
+        used = sum(len(content) // 2 for _, content in self.final.values())
+        used += sum(need for _, need, _ in self.written.values()) + sum(self.waiting.values())
+        free = max(self.share - used, 0)
+        return f"full {need} {free}" if need > free else None
 
     def reply(self, line):
         words = line.split(" ")
@@ -108,12 +120,12 @@ class Reference:
             return "ok"
         command, block = words[0], words[1]
         if command == "open":
-            refusal = self.refusal(block)
+            refusal = self.refusal(block, int(words[3]))
             if refusal is None:
                 self.written[block] = (words[2], int(words[3]), "")
             return refusal or "ok"
         if command == "write":
-            refusal = self.refusal(block)
+            refusal = self.refusal(block, len(words[3]) // 2)
             if refusal is None:
                 self.final[block] = (words[2], words[3])
             return refusal or "ok"
@@ -147,7 +159,7 @@ class Reference:
             self.spoilt.pop(block, None)
             return "ok"
         if block in self.waiting:
-            self.waiting.discard(block)
+            del self.waiting[block]
             return "ok"
         return "none"
 
@@ -155,8 +167,8 @@ class Reference:
         return self.spoilt.get(block) or meta_of(2, 512, bytes.fromhex(self.final[block][1]))
 
     def reopen(self):
-        """A block with an open writer waits to be deleted."""
-        self.waiting |= set(self.written)
+        """A block with an open writer waits to be deleted, with what was pushed."""
+        self.waiting |= {block: len(pushed) // 2 for block, (_, _, pushed) in self.written.items()}
         self.written = {}
 
 
@@ -165,7 +177,7 @@ def random_line(rng):
     stamp = rng.randint(1, rng.choice([5, 2**63 - 1]))
     content = bytes(rng.randrange(256) for _ in range(rng.choice([0, 1, 3, 20, 20, 511, 512, 513, 1500]))).hex()
     return rng.choice([
-        f"open {block} {stamp} {rng.choice([0, 1, 5, 30, 2000])}",
+        f"open {block} {stamp} {rng.choice([0, 1, 5, 30, 30, 2000, MOST, MOST + 1])}",
         f"push {block} {content}",
         f"finish {block}",
         f"drop {block}",
@@ -177,15 +189,24 @@ def random_line(rng):
     ])
 
 
-def played(lines):
+def command(share):
+    return [str(PROGRAM), "bp1", "DN-1", f"DS-1:{share}:{DIRECTORY}"]
+
+
+def played(share, lines):
     script = "".join(line + "\n" for line in lines).encode()
     try:
-        run = subprocess.run(COMMAND, input=script, capture_output=True, timeout=LIMIT)
+        run = subprocess.run(command(share), input=script, capture_output=True, timeout=LIMIT)
     except subprocess.TimeoutExpired:
         sys.exit(f"a run of {len(lines)} lines had not ended after {LIMIT} seconds")
     if run.returncode != 0:
         sys.exit(f"status {run.returncode}: {run.stdout[-200:]!r}")
     return run.stdout.decode().split("\n")[:-1]
+
+
+def waiting_length(block):
+    """The bytes of the block files of a block that waits."""
+    return sum(found.stat().st_size for found in DIRECTORY.rglob(f"current/**/blk_{block}"))
 
 
 def path_of(name):
@@ -226,10 +247,10 @@ def spoil(rng, reference):
 def compare(seed):
     rng = random.Random(seed)
     shutil.rmtree(DIRECTORY, ignore_errors=True)
-    reference = Reference()
+    reference = Reference(rng.choice(SHARES))
     for _ in range(4):
         lines = [random_line(rng) for _ in range(rng.randint(0, 40))]
-        replies = played(lines)
+        replies = played(reference.share, lines)
         wanted = [reference.reply(line) for line in lines]
         if replies != wanted:
             sys.exit(f"seed {seed}: {[d for d in zip(lines, replies, wanted) if d[1] != d[2]][:3]}")
@@ -239,9 +260,9 @@ def compare(seed):
             spoil(rng, reference)
 
 
-def killed(lines, seconds):
+def killed(share, lines, seconds):
     """The replies that a run wrote before it was killed."""
-    run = subprocess.Popen(COMMAND, stdin=subprocess.PIPE, stdout=subprocess.PIPE)
+    run = subprocess.Popen(command(share), stdin=subprocess.PIPE, stdout=subprocess.PIPE)
     run.stdin.write("".join(line + "\n" for line in lines).encode())
     run.stdin.flush()
     time.sleep(seconds)
@@ -254,10 +275,10 @@ def killed(lines, seconds):
 def compare_killed(seed):
     rng = random.Random(seed)
     shutil.rmtree(DIRECTORY, ignore_errors=True)
-    reference = Reference()
+    reference = Reference(rng.choice(SHARES))
     for _ in range(3):
         lines = [random_line(rng) for _ in range(60)]
-        replies = killed(lines, rng.random() * 0.12)
+        replies = killed(reference.share, lines, rng.random() * 0.12)
         for line, reply in zip(lines, replies):
             wanted = reference.reply(line)
             if reply != wanted:
@@ -268,8 +289,8 @@ def compare_killed(seed):
             after.reply(cut)
         before.reopen()
         after.reopen()
-        found = Reference()
-        for block, reply in zip(IDS, played([f"read {block}" for block in IDS])):
+        found = Reference(reference.share)
+        for block, reply in zip(IDS, played(reference.share, [f"read {block}" for block in IDS])):
             allowed = {before.reply(f"read {block}"), after.reply(f"read {block}")}
             if cut is not None and cut.split(" ")[1:2] == [block] and block not in before.final:
                 # files without a replica may stand of it or not
@@ -280,7 +301,7 @@ def compare_killed(seed):
             if words[0] == "data":
                 found.final[block] = (words[1], words[2])
             elif words[0] == "waiting":
-                found.waiting.add(block)
+                found.waiting[block] = waiting_length(block)
         reference = found
 
 

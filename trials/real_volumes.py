@@ -37,7 +37,7 @@ class Run:
     """A run of the program that goes on, line by line."""
 
     def __init__(self, volume, pools="bp1", **options):
-        words = [str(PROGRAM), pools, "DN-1", *(f"DS-{i}:100000:{dir}" for i, dir in enumerate(volume, 1))]
+        words = [str(PROGRAM), pools, "DN-1", *(f"DS-{i}:1000000000:{dir}" for i, dir in enumerate(volume, 1))]
         self.run = subprocess.Popen(words, stdin=subprocess.PIPE, stdout=subprocess.PIPE, **options)
 
     def reply(self, line):
@@ -172,7 +172,7 @@ def check_directories(room):
     closed = stored(room / "closed")
     lines = "".join(f"open {block} 1001 9\n" for block in range(10, 20)).encode()
     for stream, wanted in [("<&-", (b"end source\n", 2)), (">&-", (b"", 3))]:
-        words = ["sh", "-c", f'exec "$@" {stream}', "", str(PROGRAM), "bp1", "DN-1", f"DS-1:100000:{closed}"]
+        words = ["sh", "-c", f'exec "$@" {stream}', "", str(PROGRAM), "bp1", "DN-1", f"DS-1:1000000000:{closed}"]
         run = subprocess.run(words, input=lines, capture_output=True, timeout=60)
         want(f"a run with {stream}", (run.stdout, run.returncode), wanted)
     for file in closed.rglob("current/rbw/blk_1*"):
