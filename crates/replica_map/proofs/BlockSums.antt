@@ -79,13 +79,13 @@ module _ {X : Type 0} (key count : X → ℕ) where
       nowhere (has_key key (key x)) xs (λ i d l. ne_eqb _ _ (λ e.
       let above : key x < key (get_or xs i d) = up zero (suc i) d (omega arith) (omega arith) in omega arith))
 
-  one_past : (xs : List X) (k : ℕ) → sum_by key xs < k → one_use xs k ≡ 0
+  pub one_past : (xs : List X) (k : ℕ) → sum_by key xs < k → one_use xs k ≡ 0
   one_past xs k l =
       let absent : find (has_key key k) xs ≡ None =
       nowhere (has_key key k) xs (λ i d w. ne_eqb _ _ (λ e. omega (arith, get_or-le-sum_by key xs i d w))) in
       ap (of_some count) absent
 
-  one_sum : (n : ℕ) (xs : List X) → Rises key xs → sum_by key xs < n → sum_below n (one_use xs) ≡ sum_by count xs
+  pub one_sum : (n : ℕ) (xs : List X) → Rises key xs → sum_by key xs < n → sum_below n (one_use xs) ≡ sum_by count xs
   one_sum n [] up l = below_zero n (λ k. 0) (λ k. refl)
   one_sum n (x ∷ xs) up l =
       let more : sum_below n (one_use (x ∷ xs)) ≡ sum_below n (one_use xs) + count x =
@@ -94,12 +94,12 @@ module _ {X : Type 0} (key count : X → ℕ) where
       (λ k other. rw (ne_eqb (key x) k (λ e. other (sym e))) refl) in
       omega (arith, sum_by-cons count x xs, sum_by-cons key x xs, one_sum n xs (rises_rest x xs up) (omega (arith, sum_by-cons key x xs)))
 
-  all_past : (xs : List X) (k : ℕ) → sum_by key xs < k → all_uses xs k ≡ 0
+  pub all_past : (xs : List X) (k : ℕ) → sum_by key xs < k → all_uses xs k ≡ 0
   all_past [] k l = refl
   all_past (x ∷ xs) k l =
       rw (ne_eqb (key x) k (λ e. omega (arith, sum_by-cons key x xs))) (all_past xs k (omega (arith, sum_by-cons key x xs)))
 
-  all_sum : (n : ℕ) (xs : List X) → sum_by key xs < n → sum_below n (all_uses xs) ≡ sum_by count xs
+  pub all_sum : (n : ℕ) (xs : List X) → sum_by key xs < n → sum_below n (all_uses xs) ≡ sum_by count xs
   all_sum n [] l = below_zero n (λ k. 0) (λ k. refl)
   all_sum n (x ∷ xs) l =
       let more : sum_below n (all_uses (x ∷ xs)) ≡ sum_below n (all_uses xs) + count x =

@@ -8,7 +8,7 @@ use Rattle.replica_map.specs.declared.entry.Grown.{Grown}
 use Rattle.replica_map.specs.declared.row.Row.{Row}
 use Rattle.replica_map.specs.declared.leftover.Leftover.{Leftover}
 use Rattle.replica_map.specs.declared.ticket.Ticket.{Ticket}
-use Rattle.replica_map.specs.Counting.{is_writing, row_use, leftover_use, ticket_use}
+use Rattle.replica_map.specs.Counting.{is_writing, row_use, leftover_use, ticket_use, row_replica, leftover_loose}
 use Rattle.replica_map.specs.Leftovers.{is_leftover_of}
 
 -- the books: entries with what is kept beside them and tickets, both in ascending id, leftovers in listing order,
@@ -43,6 +43,13 @@ leftovers_of books id = filter (λ leftover. leftover.id == id) books.leftovers
 -- the counted use of a volume, in bytes
 abbrev pub used : ℕ → Books → ℕ
 used vol books = sum_by (row_use vol) books.rows + sum_by (leftover_use vol) books.leftovers + sum_by (ticket_use vol) books.tickets
+
+-- how many whole replicas are on a volume, and how many leftovers aren't held
+abbrev pub replicas : ℕ → Books → ℕ
+replicas vol books = sum_by (row_replica vol) books.rows
+
+abbrev pub loose : Books → ℕ
+loose books = sum_by leftover_loose books.leftovers
 
 -- how many entries have an open writer
 abbrev pub writers : Books → ℕ

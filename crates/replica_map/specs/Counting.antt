@@ -1,5 +1,5 @@
 -- What entries, leftovers and tickets count on a volume, and the order of the replicas.
-use Rattle.std.specs.Prelude.{ℕ, ◌<◌, ◌+◌, ◌*◌, ◌^◌, ◌==◌, if◌then◌else◌, Bool, true, false, Option, Some, None}
+use Rattle.std.specs.Prelude.{ℕ, ◌<◌, ◌+◌, ◌*◌, ◌^◌, ◌==◌, ◌&&◌, if◌then◌else◌, Bool, true, false, Option, Some, None}
 use Rattle.volume_layout.specs.Places.{block_place}
 use Rattle.volume_layout.specs.declared.place.Place.{Place}
 use Rattle.replica_map.specs.declared.entry.State.{State}
@@ -71,6 +71,13 @@ leftover_use vol leftover = if leftover.vol == vol then leftover_len leftover el
 
 abbrev pub ticket_use : ℕ → Ticket → ℕ
 ticket_use vol ticket = if ticket.dest == vol then ticket.len else 0
+
+-- 1 of a whole replica on a volume, and of a leftover that isn't held
+abbrev pub row_replica : ℕ → Row → ℕ
+row_replica vol row = if is_final row.entry.state && row.entry.vol == vol then 1 else 0
+
+abbrev pub leftover_loose : Leftover → ℕ
+leftover_loose leftover = if leftover.held then 0 else 1
 
 -- its numbers are in their types' ranges
 abbrev pub IsSmall : Place → Type 0

@@ -1,6 +1,6 @@
 -- What the books count on a volume, block by block.
 use Rattle.std.specs.Prelude.{ℕ, zero, suc, ◌≡◌, ◌+◌, ◌≤◌, sum_by, Option, Some, None}
-use Rattle.replica_map.specs.Counting.{row_use, leftover_use, ticket_use}
+use Rattle.replica_map.specs.Counting.{row_use, leftover_use, ticket_use, row_replica, leftover_loose}
 use Rattle.replica_map.specs.Books.{Books, row_at, leftovers_of, ticket_at}
 
 -- what an item counts that may not be there
@@ -12,6 +12,13 @@ of_some f (Some x) = f x
 abbrev pub block_use : ℕ → Books → ℕ → ℕ
 block_use vol books id =
     of_some (row_use vol) (row_at books id) + sum_by (leftover_use vol) (leftovers_of books id) + of_some (ticket_use vol) (ticket_at books id)
+
+-- how many whole replicas a block has on a volume, and how many leftovers of it aren't held
+abbrev pub block_replicas : ℕ → Books → ℕ → ℕ
+block_replicas vol books id = of_some (row_replica vol) (row_at books id)
+
+abbrev pub block_loose : Books → ℕ → ℕ
+block_loose books id = sum_by leftover_loose (leftovers_of books id)
 
 -- the sum of a function of the numbers below a bound
 abbrev pub sum_below : ℕ → (ℕ → ℕ) → ℕ

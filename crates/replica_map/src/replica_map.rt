@@ -7,8 +7,8 @@ ghost use Rattle.replica_map.specs.declared.entry.Entry.{Entry};
 ghost use Rattle.volume_layout.specs.Paths.{IsBlockId};
 ghost use Rattle.replica_map.specs.Leftovers.{is_leftover_of};
 ghost use Rattle.replica_map.specs.declared.leftover.Leftover.{Leftover};
-ghost use Rattle.replica_map.specs.Books.{row_at, entry_at, grown_at, ticket_at, leftovers_of, used, writers, Keeps, Puts, ListsLeftover, KeepsOthers, DropsFirst, IsFirstOf, IsNext, HasNoLater, SameRows, SameLeftovers};
-ghost use Rattle.replica_map.specs.Uses.{block_use, IsSumOf, SumsAreUnique};
+ghost use Rattle.replica_map.specs.Books.{row_at, entry_at, grown_at, ticket_at, leftovers_of, used, replicas, loose, writers, Keeps, Puts, ListsLeftover, KeepsOthers, DropsFirst, IsFirstOf, IsNext, HasNoLater, SameRows, SameLeftovers};
+ghost use Rattle.replica_map.specs.Uses.{block_use, block_replicas, block_loose, IsSumOf, SumsAreUnique};
 
 use crate::entry::{Entry, Grown};
 use crate::leftover::Leftover;
@@ -23,6 +23,9 @@ use volume_layout::{BlockId, Place};
 
 /// The most entries, leftovers and tickets, so that no sum of lengths passes 128 bits.
 const MOST: usize = 1 << 60;
+
+/// How many numbers the places of a volume have: 8 bits for each directory, and 64 for the id.
+const VOLUME_KEYS: u128 = 1 << 80;
 
 /// The books of a pool: at most one entry a block, leftovers, and at most one move ticket a block; of each at most 2^60.
 /// An entry is found by binary search over the ids, the next replica of a volume over the places.
@@ -157,6 +160,15 @@ impl ReplicaMap {
         let _tickets_rise = self.tickets.len();
     }
 
+    /// How many replicas a volume has is the sum of what the blocks have there, and how many leftovers aren't held that of
+    /// those of the blocks.
+    pub fn counts_are_sums(&self)
+        ensures replicas { (vol : ℕ) → IsSumOf (block_replicas vol self.now) (replicas vol self.now) }
+        ensures loose { IsSumOf (block_loose self.now) (loose self.now) }
+    {
+        let _rows_rise = self.rows.len();
+    }
+
     /// Makes room for as many entries and leftovers beside those that are there. It takes no memory where there is room. After
     /// an `AllocError` nothing has changed but the room, which may have grown.
     pub fn reserve(&mut self, entries: usize, leftovers: usize) -> Result<(), AllocError>
@@ -278,7 +290,7 @@ impl ReplicaMap {
         match self.tally.places.first_from(place_key(vol, after) + 1) {
             None => None,
             Some(key) => {
-                if key / (1 << 80) != u128::from(vol) {
+                if key / VOLUME_KEYS != u128::from(vol) {
                     return None;
                 }
                 match self.rows.find(key % (1 << 64)) {
@@ -287,6 +299,28 @@ impl ReplicaMap {
                 }
             }
         }
+    }
+
+    /// How many Finalised entries are on a volume.
+    pub fn replicas(&self, vol: u8) -> usize
+        ensures { result ≡ replicas vol self.now }
+    {
+        let _rises = self.rows.len();
+        let low = u128::from(vol) * VOLUME_KEYS;
+        self.tally.places.count_between(low, low + VOLUME_KEYS)
+    }
+
+    /// How many leftovers aren't held.
+    pub fn loose_count(&self) -> usize
+        ensures { result ≡ loose self.now }
+    {
+        let mut count = 0;
+        for leftover in &self.leftovers {
+            if !leftover.held {
+                count += 1;
+            }
+        }
+        count
     }
 
     /// How many leftovers there are.

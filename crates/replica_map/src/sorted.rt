@@ -1,6 +1,6 @@
 // A vector whose keys rise.
 ghost use Rattle.std.specs.Prelude.{◌≡◌, ℕ, ◌+◌, ◌<◌, ◌≤◌, ◌==◌, [], ◌∷◌, ◌++◌, length, vec_len, vec_capacity, slice_get, insert, find, sum_by, Option, Some, None, IsSome, IsOk, OnOk};
-ghost use Rattle.replica_map.specs.Rising.{Rises, IsPlace, IsFirstFrom, PutsItem, has_key};
+ghost use Rattle.replica_map.specs.Rising.{Rises, IsPlace, IsFirstFrom, PutsItem, has_key, count_between};
 
 use crate::keyed::Keyed;
 use std::alloc::{AllocError, Global};
@@ -92,6 +92,15 @@ impl<T: Keyed> Sorted<T> {
     {
         let _ = &self.items;
         self.at(self.place(key))
+    }
+
+    /// How many items have a key from the one on and below the other.
+    pub fn count_between(&self, low: u128, high: u128) -> usize
+        requires order { low ≤ high }
+        ensures { result ≡ count_between T.key low high self.now.items }
+    {
+        let _ = &self.items;
+        self.place(high) - self.place(low)
     }
 
     /// Makes room for `more` items beside those that are there.

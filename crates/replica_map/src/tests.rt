@@ -152,6 +152,10 @@ fn books_are_made_of_rows(rt: HostRuntime) -> Result<(), Fail> {
     expect_rows(&rt, &map, rows.as_slice());
     assert_eq!(rt; map.writing_count(), 1);
     assert_eq!(rt; [map.used(1), map.used(2), map.used(3)], [27, 55, 0]);
+    assert_eq!(rt;
+        [map.replicas(1), map.replicas(2), map.replicas(3)],
+        [2, 1, 0]
+    );
     expect_order(&rt, &map, 1, &[8197, 261]);
     expect_order(&rt, &map, 2, &[5]);
     Ok(())
