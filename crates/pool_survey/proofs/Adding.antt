@@ -1,9 +1,10 @@
 -- One more file that was found.
-use Rattle.std.proofs.Common.{◌≡◌, ◌≢◌, ℕ, Bool, true, false, inl, inr, Option, None, Some, refl, ap, sym, ◌∙◌, subst}
+use Rattle.std.proofs.Common.{◌≡◌, ◌≢◌, ℕ, Bool, true, false, List, [], inl, inr, Option, None, Some, refl, ap, sym, ◌∙◌, subst, arith}
 use Rattle.std.specs.Prelude.{◌&&◌, ◌||◌, ◌==◌, if◌then◌else◌, IsFalse}
 use Rattle.std.proofs.lemmas.Bool.{cases_eq, eq-eqb, ne_eqb, false_from_ne_true}
 use Rattle.std.proofs.lemmas.Map.Lookups.{exact_unsigned}
 use Rattle.std.proofs.lemmas.Map.Views.{tells_apart}
+use Rattle.std.specs.Map.{lookup}
 use Rattle.std.specs.Ordering.{nat_cmp}
 use Rattle.std.specs.BTreeMap.{BTreeMap, Updates, is_at}
 use Rattle.volume_layout.specs.Paths.{IsBlockId}
@@ -22,6 +23,13 @@ none_found WritingBlock = refl
 none_found (WritingMeta stamp) = refl
 none_found TemporaryBlock = refl
 none_found (TemporaryMeta stamp) = refl
+
+-- nor of any block where the map has no entries
+pub none_left : (found : BTreeMap ℕ FoundFiles) → found.entries ≡ [] → (id : ℕ) → found_of found id ≡ None
+none_left found empty id = ap (λ (entries : List (ℕ × FoundFiles)). lookup (is_at (nat_cmp id)) entries) empty
+
+pub no_stamps : AreStamps []
+no_stamps = record { in_range = λ k d below. absurd (omega (arith, below)); once = λ i j d early within. absurd (omega (arith, within)) }
 
 or_false : (b : Bool) → (b || false) ≡ b
 or_false true = refl

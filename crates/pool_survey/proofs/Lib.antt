@@ -5,3 +5,6 @@ pub mod Told
 pub mod Regions
 pub mod Whole
 pub mod Drafts
+pub mod Merging
+pub mod LookingOn
+pub mod EachVolume

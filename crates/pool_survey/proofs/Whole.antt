@@ -1,10 +1,8 @@
 -- The whole survey.
-use Rattle.std.proofs.Common.{◌≡◌, ℕ, Bool, true, false, List, [], ◌∷◌, inl, inr, Option, None, Some, Contains, refl, ap, sym, ◌∙◌, subst, arith}
+use Rattle.std.proofs.Common.{◌≡◌, ℕ, Bool, true, false, List, [], ◌∷◌, inl, inr, Option, None, Some, Contains, refl, ap, sym, ◌∙◌, subst}
 use Rattle.std.specs.Prelude.{◌↔◌, IsTrue, IsFalse, IsSome, nat_eq, codes}
 use Rattle.std.specs.List.{list_any}
-use Rattle.std.specs.Map.{lookup}
-use Rattle.std.specs.Ordering.{nat_cmp}
-use Rattle.std.specs.BTreeMap.{BTreeMap, is_at}
+use Rattle.std.specs.BTreeMap.{BTreeMap}
 use Rattle.std.proofs.lemmas.Bool.{false≢true, cases_Bool}
 use Rattle.std.proofs.lemmas.Cmp.{nat_eq_equiv}
 use Rattle.std.proofs.lemmas.Map.Views.{Contains-from_any, list_any-from_Contains, exact_unsigned_eq}
@@ -25,17 +23,14 @@ use Rattle.pool_survey.specs.Found.{AreStamps, AreBlocks, found_of, metas_of, wr
 use Rattle.pool_survey.specs.Exact.{IsExact, IsSurveyOf}
 use Rattle.pool_survey.specs.Directories.{is_finalised, is_writing, is_in}
 use Rattle.pool_survey.specs.Regions.{Region, NoneFound, AreExact, AreSameOutside, is_found, in_finalised}
-use Rattle.pool_survey.proofs.Adding.{none_found}
+use Rattle.pool_survey.proofs.Adding.{none_found, none_left, no_stamps}
 use Rattle.pool_survey.proofs.Regions.{still_none}
 
 -- ---- before the first name
 
 module _ (blocks : BTreeMap ℕ FoundFiles) (empty : blocks.entries ≡ []) where
   nothing : (id : ℕ) → found_of blocks id ≡ None
-  nothing id = ap (λ (entries : List (ℕ × FoundFiles)). lookup (is_at (nat_cmp id)) entries) empty
-
-  no_stamps : AreStamps []
-  no_stamps = record { in_range = λ k d below. absurd (omega (arith, below)); once = λ i j d early within. absurd (omega (arith, within)) }
+  nothing = none_left blocks empty
 
   pub no_blocks : AreBlocks blocks
   no_blocks = record {

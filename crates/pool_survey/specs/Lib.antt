@@ -3,3 +3,4 @@ pub mod Exact
 pub mod Directories
 pub mod Regions
 pub mod Remaining
+pub mod Places
