@@ -4,4 +4,4 @@ use Rattle.map_model.specs.Steps.{Room}
 use Rattle.pool_state.specs.Rooms.{room_by}
 
 pub any_room : Room
-any_room = room_by [] (λ vol. 0)
+any_room = room_by (record { shares = []; next_rev = 0; pointer = 1 }) (λ vol. 0)

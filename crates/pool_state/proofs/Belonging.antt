@@ -94,18 +94,18 @@ stands_elsewhere stands honest same = record {
 }
 
 -- the writer of a start
-pub started_stands : {told : Option (List World)} {books : ℕ → BlockBooks} (w : Writer) (id stamp vol need block meta : ℕ) → IsBlockId id → IsStamp stamp →
-    w.id ≡ id → w.stamp ≡ stamp → w.vol ≡ vol → w.reserved ≡ need → books id ≡ written_books None [] None (writer_at stamp vol need 0 block meta) →
+pub started_stands : {told : Option (List World)} {books : ℕ → BlockBooks} (w : Writer) (id stamp vol need rev block meta : ℕ) → IsBlockId id → IsStamp stamp →
+    w.id ≡ id → w.stamp ≡ stamp → w.vol ≡ vol → w.reserved ≡ need → books id ≡ written_books None [] None (writer_at stamp vol need rev block meta) →
     w.block ≡ draft_at block vol (rbw_block id) → w.meta ≡ Some (draft_at meta vol (rbw_meta id stamp)) → HasPushed told w [] → WriterStands told books w []
-started_stands {books = books} w id stamp vol need block meta valid stamped same_id same_stamp same_vol same_reserved here at_block at_meta pushed = record {
+started_stands {books = books} w id stamp vol need rev block meta valid stamped same_id same_stamp same_vol same_reserved here at_block at_meta pushed = record {
   valid = (subst IsBlockId (sym same_id) valid, subst IsStamp (sym same_stamp) stamped);
-  rev = 0;
+  rev = rev;
   block_number = block;
   meta_number = meta;
   is = ap books same_id ∙ here
-      ∙ ap (λ s. written_books None [] None (writer_at s vol need 0 block meta)) (sym same_stamp)
-      ∙ ap (λ v. written_books None [] None (writer_at w.stamp v need 0 block meta)) (sym same_vol)
-      ∙ ap (λ n. written_books None [] None (writer_at w.stamp w.vol n 0 block meta)) (sym same_reserved);
+      ∙ ap (λ s. written_books None [] None (writer_at s vol need rev block meta)) (sym same_stamp)
+      ∙ ap (λ v. written_books None [] None (writer_at w.stamp v need rev block meta)) (sym same_vol)
+      ∙ ap (λ n. written_books None [] None (writer_at w.stamp w.vol n rev block meta)) (sym same_reserved);
   block = at_block
       ∙ ap (λ v. draft_at block v (rbw_block id)) (sym same_vol)
       ∙ ap (λ i. draft_at block w.vol (rbw_block i)) (sym same_id);

@@ -16,3 +16,4 @@ pub mod EmptyDisks
 pub mod Deletions
 pub mod AnyRoom
 pub mod Counted
+pub mod Drawing

@@ -21,10 +21,11 @@ use Rattle.replica_map.specs.declared.entry.Grown.{Grown}
 use Rattle.replica_map.specs.declared.entry.State.{State}
 use Rattle.replica_map.specs.declared.entry.State.TheVariants.{Finalised, Writing, Unsure, Waiting}
 use Rattle.pool_state.specs.declared.start_fault.StartFault.{StartFault}
-use Rattle.pool_state.specs.declared.start_fault.StartFault.TheVariants.{Exists, None as NoBlock, Writing as RefusedWriting, Waiting as RefusedWaiting, Unsure as RefusedUnsure, Full, TooLong, Failed, Memory}
+use Rattle.pool_state.specs.declared.start_fault.StartFault.TheVariants.{Exists, None as NoBlock, Writing as RefusedWriting, Waiting as RefusedWaiting, Unsure as RefusedUnsure, Full, TooLong, Worn, Failed, Memory}
 use Rattle.pool_state.specs.Answers.{start_fault, write_fault}
 use Rattle.pool_state.specs.Books.{entry_state, book_entry}
 use Rattle.pool_state.specs.BookSteps.{BooksNotStarted}
+use Rattle.pool_state.specs.Rooms.{Choosing}
 use Rattle.pool_state.specs.Stands.{IsVolume, PoolStands}
 use Rattle.pool_state.specs.Reaching.{Reaches, ComesFrom, Then}
 use Rattle.pool_state.proofs.Changing.{Leads}
@@ -82,16 +83,18 @@ pub refused_so : (state : State) (fault : StartFault) → fault ≡ write_fault 
 refused_so state fault is = (λ e. (no_failure state).0 (sym is ∙ e), λ e. (no_failure state).1 (sym is ∙ e))
 
 -- what the books say stays where a start is refused
-pub refused_books : (fault : StartFault) (stamp need : ℕ) (books : BlockBooks) → (fault ≡ Failed → ⊥) × (fault ≡ Memory → ⊥) → BooksNotStarted fault stamp need books books
-refused_books Exists stamp need books so = refl
-refused_books NoBlock stamp need books so = refl
-refused_books RefusedWriting stamp need books so = refl
-refused_books RefusedWaiting stamp need books so = refl
-refused_books RefusedUnsure stamp need books so = refl
-refused_books (Full n free) stamp need books so = refl
-refused_books (TooLong limit) stamp need books so = refl
-refused_books Failed stamp need books so = absurd (so.0 refl)
-refused_books Memory stamp need books so = absurd (so.1 refl)
+pub refused_books : (fault : StartFault) (vol stamp need : ℕ) (choosing : Choosing) (books : BlockBooks) → (fault ≡ Failed → ⊥) × (fault ≡ Memory → ⊥) →
+    BooksNotStarted fault vol stamp need choosing choosing books books
+refused_books Exists vol stamp need choosing books so = (refl, refl)
+refused_books NoBlock vol stamp need choosing books so = (refl, refl)
+refused_books RefusedWriting vol stamp need choosing books so = (refl, refl)
+refused_books RefusedWaiting vol stamp need choosing books so = (refl, refl)
+refused_books RefusedUnsure vol stamp need choosing books so = (refl, refl)
+refused_books (Full n free) vol stamp need choosing books so = (refl, refl)
+refused_books (TooLong limit) vol stamp need choosing books so = (refl, refl)
+refused_books Worn vol stamp need choosing books so = (refl, refl)
+refused_books Failed vol stamp need choosing books so = absurd (so.0 refl)
+refused_books Memory vol stamp need choosing books so = absurd (so.1 refl)
 
 -- a start that finds room
 absent_step : (room : Room) (need stamp : ℕ) (reply : Reply) (after : Cell) → write_refusal room absent need ≡ None → CarriedOut absent (start_write stamp need) reply after →

@@ -6,9 +6,9 @@ use Rattle.map_model.specs.Allows.{AllowsImage}
 use Rattle.map_model.specs.Sound.{Knowledge, matching, IsSound}
 use Rattle.map_model.specs.Cells.{Cell, Cells}
 use Rattle.map_model.specs.Steps.{Command, Room, Step}
-use Rattle.map_model.specs.Steps.{Reply, done, exists, no_block, is_writing, is_waiting, is_unsure, full, too_long, failed, memory}
+use Rattle.map_model.specs.Steps.{Reply, done, exists, no_block, is_writing, is_waiting, is_unsure, full, too_long, worn, failed, memory}
 use Rattle.pool_state.specs.declared.start_fault.StartFault.{StartFault}
-use Rattle.pool_state.specs.declared.start_fault.StartFault.TheVariants.{Exists, None as NoBlock, Writing, Waiting, Unsure, Full, TooLong, Failed, Memory}
+use Rattle.pool_state.specs.declared.start_fault.StartFault.TheVariants.{Exists, None as NoBlock, Writing, Waiting, Unsure, Full, TooLong, Worn, Failed, Memory}
 use Rattle.pool_state.specs.declared.deleting.DeleteFault.{DeleteFault}
 use Rattle.pool_state.specs.declared.deleting.DeleteFault.TheVariants.{None as NotThere, Writing as IsWrittenNow, Failed as RemovalFailed}
 use Rattle.replica_map.specs.declared.entry.State.{State}
@@ -25,6 +25,7 @@ start_fault Waiting = is_waiting
 start_fault Unsure = is_unsure
 start_fault (Full need free) = full need free
 start_fault (TooLong limit) = too_long limit
+start_fault Worn = worn
 start_fault Failed = failed
 start_fault Memory = memory
 

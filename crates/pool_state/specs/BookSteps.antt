@@ -2,6 +2,7 @@
 use Rattle.std.specs.Prelude.{ℕ, ◌≡◌, ◌⊎◌, [], ◌∷◌, drop, Option, Some, None, option_map, IfSome, Result, Ok, Err}
 use Rattle.map_model.specs.Stands.{EntryState, is_final, is_written, in_doubt, is_waiting, Entry, BlockBooks}
 use Rattle.map_model.specs.Tenures.{books_of}
+use Rattle.pool_state.specs.Rooms.{Choosing, drawn}
 use Rattle.pool_state.specs.Books.{with_leftover, block_held, meta_held}
 use Rattle.pool_state.specs.declared.start_fault.StartFault.{StartFault}
 use Rattle.pool_state.specs.declared.start_fault.StartFault.TheVariants.{Failed as StartFailed, Memory as StartMemory}
@@ -42,30 +43,35 @@ given_up books = holding_both books.entry (in_state is_waiting books)
 abbrev pub given_up_meta : BlockBooks → BlockBooks
 given_up_meta books = holding_meta books.entry (in_state is_waiting books)
 
--- the entry of a write that was started with this stamp, and reserves so many bytes
-abbrev pub started_entry : (stamp need : ℕ) → EntryState → Entry
-started_entry stamp need state = record { stamp = stamp; len = need; vol = 1; rev = 0; state = state }
+-- the entry of a write that was started on this volume, of this revision, with this stamp, and reserves so many bytes
+abbrev pub started_entry : (vol rev stamp need : ℕ) → EntryState → Entry
+started_entry vol rev stamp need state = record { stamp = stamp; len = need; vol = vol; rev = rev; state = state }
 
 -- the block is being written, with drafts of these numbers
-abbrev pub being_written : (stamp need block meta : ℕ) → BlockBooks
-being_written stamp need block meta = books_of (Some (started_entry stamp need (is_written None block meta))) [] None
+abbrev pub being_written : (vol rev stamp need block meta : ℕ) → BlockBooks
+being_written vol rev stamp need block meta = books_of (Some (started_entry vol rev stamp need (is_written None block meta))) [] None
 
 -- the block waits with the block file that a start may have left, and with the meta file that it may have left too
-abbrev pub half_started : (stamp need : ℕ) → BlockBooks
-half_started stamp need = books_of (Some (started_entry stamp need is_waiting)) (block_held (started_entry stamp need is_waiting) ∷ []) None
+abbrev pub half_started : (vol rev stamp need : ℕ) → BlockBooks
+half_started vol rev stamp need =
+    books_of (Some (started_entry vol rev stamp need is_waiting)) (block_held (started_entry vol rev stamp need is_waiting) ∷ []) None
 
-abbrev pub left_started : (stamp need : ℕ) → BlockBooks
-left_started stamp need = with_leftover (meta_held (started_entry stamp need is_waiting)) (half_started stamp need)
+abbrev pub left_started : (vol rev stamp need : ℕ) → BlockBooks
+left_started vol rev stamp need = with_leftover (meta_held (started_entry vol rev stamp need is_waiting)) (half_started vol rev stamp need)
 
--- the start of a fresh write that isn't done, and one that is answered so
-abbrev pub BooksNotStarted : StartFault → (stamp need : ℕ) → (old new : BlockBooks) → Type 0
-BooksNotStarted StartFailed stamp need old new = (new ≡ half_started stamp need) ⊎ (new ≡ left_started stamp need)
-BooksNotStarted StartMemory stamp need old new = (new ≡ old) ⊎ (new ≡ half_started stamp need)
-BooksNotStarted fault stamp need old new = new ≡ old
+-- What a start on this volume does, by what its pool chooses by before and after it: a revision is drawn just where an entry
+-- is made. So one that isn't done, and one that is answered so.
+abbrev pub BooksNotStarted : StartFault → (vol stamp need : ℕ) → (was now : Choosing) → (old new : BlockBooks) → Type 0
+BooksNotStarted StartFailed vol stamp need was now old new =
+    ((new ≡ half_started vol was.next_rev stamp need) ⊎ (new ≡ left_started vol was.next_rev stamp need)) × (now ≡ drawn vol was)
+BooksNotStarted StartMemory vol stamp need was now old new =
+    ((new ≡ old) × (now ≡ was)) ⊎ ((new ≡ half_started vol was.next_rev stamp need) × (now ≡ drawn vol was))
+BooksNotStarted fault vol stamp need was now old new = (new ≡ old) × (now ≡ was)
 
-abbrev pub BooksStarted : {W : Type 0} → Result W StartFault → (stamp need : ℕ) → (old new : BlockBooks) → Type 0
-BooksStarted (Ok writer) stamp need old new = (block : ℕ) × (meta : ℕ) × (new ≡ being_written stamp need block meta)
-BooksStarted (Err fault) stamp need old new = BooksNotStarted fault stamp need old new
+abbrev pub BooksStarted : {W : Type 0} → Result W StartFault → (vol stamp need : ℕ) → (was now : Choosing) → (old new : BlockBooks) → Type 0
+BooksStarted (Ok writer) vol stamp need was now old new =
+    (block : ℕ) × (meta : ℕ) × (new ≡ being_written vol was.next_rev stamp need block meta) × (now ≡ drawn vol was)
+BooksStarted (Err fault) vol stamp need was now old new = BooksNotStarted fault vol stamp need was now old new
 
 -- the finish of a write of so many bytes
 abbrev pub BooksFinished : {U E : Type 0} → Result U E → ℕ → (old new : BlockBooks) → Type 0

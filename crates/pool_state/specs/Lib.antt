@@ -1,3 +1,4 @@
+pub mod Volumes
 pub mod Books
 pub mod BookSteps
 pub mod Writers
@@ -5,6 +6,7 @@ pub mod Stands
 pub mod Reaching
 pub mod Rooms
 pub mod Uses
+pub mod Reports
 pub mod Answers
 pub mod Tenures
 pub mod Readers

@@ -15,14 +15,11 @@ use Rattle.map_model.specs.Slots.{is_standing, view_of}
 use Rattle.map_model.specs.Stands.{EntryState, is_waiting, Entry, Agrees, Each, base_of, BlockBooks, BlockStands}
 use Rattle.pool_state.specs.declared.pool_record.Pool.{Pool}
 use Rattle.pool_state.specs.Books.{block_books}
+pub use Rattle.pool_state.specs.Volumes.{IsVolume}
 
 -- the cells with one of them changed
 abbrev pub with_cell : Cells → ℕ → Cell → Cells
 with_cell cells id cell = λ other. if other == id then cell else cells other
-
--- the volume is one of these
-abbrev pub IsVolume : ℕ → ℕ → Type 0
-IsVolume volumes vol = (1 ≤ vol) × (vol ≤ volumes)
 
 -- the entry isn't that of a block that waits
 abbrev pub IsNoWait : EntryState → Type 0

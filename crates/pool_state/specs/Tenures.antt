@@ -24,7 +24,8 @@ use Rattle.pool_state.specs.declared.deleting.DeleteFault.TheVariants.{Writing a
 use Rattle.replica_map.specs.declared.entry.State.{State}
 use Rattle.replica_map.specs.declared.entry.State.TheVariants.{Finalised, Writing as InWriting, Unsure, Waiting}
 use Rattle.pool_state.specs.Stands.{Stands}
-use Rattle.pool_state.specs.Rooms.{room_of}
+use Rattle.pool_state.specs.Rooms.{choosing_of, room_of, volume_for}
+use Rattle.pool_state.specs.BookSteps.{BooksStarted}
 
 -- why a block whose entry is in this state can't be deleted
 abbrev pub state_refusal : State → Option DeleteFault
@@ -74,6 +75,15 @@ module _ {D S T R : Type 0} {g : Ghosts D S T R} {d : drafts.Ghosts T S} {s : se
   abbrev pub Starts : {W : Type 0} → (id stamp need : ℕ) → Result W StartFault → Cells → (old new : Pool D S T R g d s r) → Type 0
   Starts id stamp need result cells old new =
       Takes id (start_write stamp need) (start_reply result) (StartLeaves result stamp need old new (cells id)) cells old new
+
+  -- and this is what it does to the books of its block, and to what the pool chooses by
+  abbrev pub StartsBooks : {W : Type 0} → (id stamp need : ℕ) → Result W StartFault → (old new : Pool D S T R g d s r) → Type 0
+  StartsBooks id stamp need result old new =
+      BooksStarted result (volume_for old need) stamp need (choosing_of old) (choosing_of new) (block_books old.map id) (block_books new.map id)
+
+  -- what it chooses by stays
+  abbrev pub ChoosesAsBefore : (old new : Pool D S T R g d s r) → Type 0
+  ChoosesAsBefore old new = choosing_of new ≡ choosing_of old
 
   -- the writer belongs to the pool, and these bytes were pushed
   abbrev pub IsWriterOf : Pool D S T R g d s r → Writing D S T R → List ℕ → Type 0

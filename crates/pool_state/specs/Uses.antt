@@ -1,10 +1,10 @@
 -- What the books of a block count on a volume.
-use Rattle.std.specs.Prelude.{ℕ, ◌≡◌, ◌+◌, ◌==◌, if◌then◌else◌, sum_by, List, Option, Some, None}
+use Rattle.std.specs.Prelude.{ℕ, ◌≡◌, ◌+◌, ◌==◌, if◌then◌else◌, sum_by, Option, Some, None}
 use Rattle.map_model.specs.Steps.{Room}
 use Rattle.map_model.specs.Stands.{EntryState, is_final, is_written, in_doubt, is_waiting, Base, Entry, Leftover, Ticket, BlockBooks}
 use Rattle.replica_map.specs.Counting.{len_of_file}
 use Rattle.replica_map.specs.Uses.{of_some, IsSumOf}
-use Rattle.pool_state.specs.Rooms.{room_by}
+use Rattle.pool_state.specs.Rooms.{Choosing, room_by, chosen}
 
 -- the length of a base
 abbrev pub base_use : Option Base → ℕ
@@ -37,6 +37,9 @@ books_use vol books = of_some (entry_use vol) books.entry + sum_by (file_use vol
 abbrev pub AreUses : (ℕ → BlockBooks) → (ℕ → ℕ) → Type 0
 AreUses books uses = (vol : ℕ) → IsSumOf (λ id. books_use vol (books id)) (uses vol)
 
--- this is the room that these books leave of volumes with these shares
-abbrev pub IsRoomOf : (shares : List ℕ) → (ℕ → BlockBooks) → Room → Type 0
-IsRoomOf shares books room = (uses : ℕ → ℕ) × AreUses books uses × (room ≡ room_by shares uses)
+-- this is the room that these books leave, and the volume that is chosen by them for so many bytes
+abbrev pub IsRoomOf : Choosing → (ℕ → BlockBooks) → Room → Type 0
+IsRoomOf choosing books room = (uses : ℕ → ℕ) × AreUses books uses × (room ≡ room_by choosing uses)
+
+abbrev pub IsChosen : Choosing → (ℕ → BlockBooks) → (need vol : ℕ) → Type 0
+IsChosen choosing books need vol = (uses : ℕ → ℕ) × AreUses books uses × (vol ≡ chosen choosing uses need)

@@ -8,7 +8,7 @@ ghost use Rattle.map_model.specs.Sound.{nothing};
 ghost use Rattle.replica_map.specs.Books.{SameRows, IsFirstOf};
 ghost use Rattle.pool_state.specs.Books.{block_books, left_at};
 ghost use Rattle.pool_state.specs.Reaching.{RemovesFiles};
-ghost use Rattle.pool_state.specs.Tenures.{Rests, KeepsWhole};
+ghost use Rattle.pool_state.specs.Tenures.{Rests, KeepsWhole, ChoosesAsBefore};
 ghost use Rattle.pool_state.specs.Stands.{Stands, StandsForSome};
 
 use crate::pool_record::Pool;
@@ -50,7 +50,7 @@ impl<D: PoolDisks> Pool<D> {
         ensures tickets { self.new.map.tickets ≡ self.old.map.tickets }
         ensures others { (other : ℕ) → other ≢ id → block_books self.new.map other ≡ block_books self.old.map other }
         ensures goes_on { GoesOn D.PoolDisks self.old.disks self.new.disks }
-        ensures shares { self.new.shares ≡ self.old.shares }
+        ensures choosing { ChoosesAsBefore self.old self.new }
         ensures failed { IsErr result → Rose (D.faults self.old.disks) (D.faults self.new.disks) }
     {
         for _ in 0..self.map.leftover_count() {
@@ -75,7 +75,7 @@ impl<D: PoolDisks> Pool<D> {
         ensures tickets { self.new.map.tickets ≡ self.old.map.tickets }
         ensures others { (other : ℕ) → other ≢ id → block_books self.new.map other ≡ block_books self.old.map other }
         ensures goes_on { GoesOn D.PoolDisks self.old.disks self.new.disks }
-        ensures shares { self.new.shares ≡ self.old.shares }
+        ensures choosing { ChoosesAsBefore self.old self.new }
         ensures failed { IsErr result → Rose (D.faults self.old.disks) (D.faults self.new.disks) }
     {
         let Some(leftover) = self.map.leftover_at(at) else {

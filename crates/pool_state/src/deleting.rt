@@ -7,7 +7,7 @@ ghost use Rattle.map_model.specs.Sound.{nothing};
 ghost use Rattle.map_model.specs.Steps.{Step, delete, delete_refusal};
 ghost use Rattle.pool_state.specs.Answers.{delete_fault};
 ghost use Rattle.pool_state.specs.Rooms.{room_of};
-ghost use Rattle.pool_state.specs.Tenures.{Deletes, state_refusal, KeepsWhole};
+ghost use Rattle.pool_state.specs.Tenures.{Deletes, state_refusal, KeepsWhole, ChoosesAsBefore};
 ghost use Rattle.volume_layout.specs.Paths.{IsBlockId};
 ghost use Rattle.replica_map.specs.Books.{entry_at};
 ghost use Rattle.replica_map.specs.declared.entry.State.TheVariants.{Finalised, Unsure, Waiting};
@@ -56,7 +56,7 @@ impl<D: PoolDisks> Pool<D> {
         ensures others { (other : ℕ) → other ≢ id → block_books self.new.map other ≡ block_books self.old.map other }
         ensures books { BooksDeleted result (block_books self.old.map id) (block_books self.new.map id) }
         ensures goes_on { GoesOn D.PoolDisks self.old.disks self.new.disks }
-        ensures shares { self.new.shares ≡ self.old.shares }
+        ensures choosing { ChoosesAsBefore self.old self.new }
         ensures failed { IsErrOf result DeleteFault.Failed → Rose (D.faults self.old.disks) (D.faults self.new.disks) }
     {
         let Some(entry) = self.map.find(id) else {
@@ -81,7 +81,7 @@ impl<D: PoolDisks> Pool<D> {
         ensures others { (other : ℕ) → other ≢ id → block_books self.new.map other ≡ block_books self.old.map other }
         ensures books { BooksDeleted result (block_books self.old.map id) (block_books self.new.map id) }
         ensures goes_on { GoesOn D.PoolDisks self.old.disks self.new.disks }
-        ensures shares { self.new.shares ≡ self.old.shares }
+        ensures choosing { ChoosesAsBefore self.old self.new }
         ensures failed { IsErr result → Rose (D.faults self.old.disks) (D.faults self.new.disks) }
     {
         let files = [BlockFile::Block, BlockFile::Meta(entry.stamp)];
@@ -114,7 +114,7 @@ impl<D: PoolDisks> Pool<D> {
         ensures others { (other : ℕ) → other ≢ id → block_books self.new.map other ≡ block_books self.old.map other }
         ensures books { BooksDeleted result (block_books self.old.map id) (block_books self.new.map id) }
         ensures goes_on { GoesOn D.PoolDisks self.old.disks self.new.disks }
-        ensures shares { self.new.shares ≡ self.old.shares }
+        ensures choosing { ChoosesAsBefore self.old self.new }
         ensures failed { IsErr result → Rose (D.faults self.old.disks) (D.faults self.new.disks) }
     {
         let files = [
@@ -143,7 +143,7 @@ impl<D: PoolDisks> Pool<D> {
         ensures others { (other : ℕ) → other ≢ id → block_books self.new.map other ≡ block_books self.old.map other }
         ensures books { BooksDeleted result (block_books self.old.map id) (block_books self.new.map id) }
         ensures goes_on { GoesOn D.PoolDisks self.old.disks self.new.disks }
-        ensures shares { self.new.shares ≡ self.old.shares }
+        ensures choosing { ChoosesAsBefore self.old self.new }
         ensures failed { IsErr result → Rose (D.faults self.old.disks) (D.faults self.new.disks) }
     {
         match self.clean(id) {

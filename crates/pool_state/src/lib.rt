@@ -9,11 +9,13 @@ mod pool;
 mod pool_record;
 mod read_pair;
 mod reading;
+mod reporting;
 mod start_fault;
 mod start_write;
 mod volume_room;
 
 pub use deleting::DeleteFault;
+pub use density::VolumeUse;
 pub use pair_draft::{PushFault, SealFault, SealedPair, Writing};
 pub use pool::{close_pool, make_pool};
 pub use pool_record::Pool;

@@ -11,7 +11,7 @@ ghost use Rattle.map_model.specs.Steps.{Step, read};
 ghost use Rattle.pool_state.specs.Answers.{start_fault, read_fault};
 ghost use Rattle.pool_state.specs.Books.{block_books};
 ghost use Rattle.pool_state.specs.Rooms.{room_of};
-ghost use Rattle.pool_state.specs.Tenures.{Rests, GivesNumber, KeepsWhole};
+ghost use Rattle.pool_state.specs.Tenures.{Rests, GivesNumber, KeepsWhole, ChoosesAsBefore};
 ghost use Rattle.pool_state.specs.Stands.{Stands, StandsForSome};
 ghost use Rattle.pool_state.specs.Readers.{reader_bytes, file_of, IsLent, AreFilesOf, LooksForPair};
 
@@ -72,7 +72,7 @@ impl<D: PoolDisks> Pool<D> {
         ensures block_number { IfOk result (λ pair. IfSome pair.block (λ reader. GivesNumber self.old self.new (D.Reader.number reader))) }
         ensures meta_number { IfOk result (λ pair. IfSome pair.meta (λ reader. GivesNumber self.old self.new (D.Reader.number reader))) }
         ensures goes_on { GoesOn D.PoolDisks self.old.disks self.new.disks }
-        ensures shares { self.new.shares ≡ self.old.shares }
+        ensures choosing { ChoosesAsBefore self.old self.new }
         ensures looked { IsOk result → LooksForPair self.old self.new }
         ensures failed { IsErrOf result StartFault.Failed → Rose (D.faults self.old.disks) (D.faults self.new.disks) }
     {

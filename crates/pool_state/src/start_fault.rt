@@ -16,6 +16,8 @@ pub enum StartFault {
     Full { need: u64, free: u64 },
     /// The length passes the limit of a block, in bytes.
     TooLong { limit: u64 },
+    /// No revision is left: the next one has reached 2^63.
+    Worn,
     /// The disks failed.
     Failed,
     /// There was no memory.

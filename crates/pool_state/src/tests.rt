@@ -10,12 +10,12 @@ use std::process::Abort;
 use std::test::Fail;
 use volume_layout::{BlockId, Stamp};
 
-// A pool without replicas, over disks in memory.
-fn empty_pool(alloc: Global) -> Result<Pool<MemDisks>, AllocError>
+// A pool without replicas, over disks in memory, whose revisions begin with this one.
+fn empty_pool(alloc: Global, first_rev: u64) -> Result<Pool<MemDisks>, AllocError>
     ensures stands { IfOk result (λ pool. StandsForSome pool) }
 {
     let disks = MemDisks::empty(alloc, 1)?;
-    Ok(make_pool(alloc, disks, vec![in alloc; 1 << 50]?))
+    Ok(make_pool(alloc, disks, vec![in alloc; 1 << 50]?, first_rev))
 }
 
 // Writes a whole block.
@@ -103,7 +103,7 @@ fn refused_meanwhile<D: PoolDisks>(
 #[test]
 fn a_block_is_written_and_read(rt: HostRuntime) -> Result<(), Fail> {
     let alloc = rt.alloc();
-    let mut pool = empty_pool(alloc)?;
+    let mut pool = empty_pool(alloc, 1)?;
     let (Some(id), Some(stamp)) = (BlockId::new(5), Stamp::new(1001)) else {
         panic!(rt; "no id");
     };
@@ -128,7 +128,7 @@ fn a_block_is_written_and_read(rt: HostRuntime) -> Result<(), Fail> {
 #[test]
 fn a_block_that_is_written_refuses_others(rt: HostRuntime) -> Result<(), Fail> {
     let alloc = rt.alloc();
-    let mut pool = empty_pool(alloc)?;
+    let mut pool = empty_pool(alloc, 1)?;
     let (Some(id), Some(stamp)) = (BlockId::new(5), Stamp::new(1001)) else {
         panic!(rt; "no id");
     };
@@ -137,5 +137,21 @@ fn a_block_that_is_written_refuses_others(rt: HostRuntime) -> Result<(), Fail> {
         Ok((Some(StartFault::Writing), Err(PushFault::Over { left: 2 })))
     );
     assert_eq!(rt; pool.write_refusal(id, 3), Some(StartFault::Writing));
+    Ok(())
+}
+
+#[test]
+fn the_last_revision_is_drawn_once(rt: HostRuntime) -> Result<(), Fail> {
+    let alloc = rt.alloc();
+    let mut pool = empty_pool(alloc, (1 << 63) - 1)?;
+    let (Some(id), Some(other), Some(stamp)) = (BlockId::new(5), BlockId::new(6), Stamp::new(1001))
+    else {
+        panic!(rt; "no id");
+    };
+    assert_eq!(rt; write_block(alloc, &mut pool, id, stamp, b"hello"), Ok(()));
+    assert_eq!(rt;
+        write_block(alloc, &mut pool, other, stamp, b"other"),
+        Err(StartFault::Worn)
+    );
     Ok(())
 }

@@ -27,7 +27,7 @@ loop-preserved g c = record {
   rows = (c.clean_one.ensures.rows.0 ∙ c.loop.invariant.rows.0, c.clean_one.ensures.rows.1 ∙ c.loop.invariant.rows.1);
   tickets = c.clean_one.ensures.tickets ∙ c.loop.invariant.tickets;
   others = λ other apart. c.clean_one.ensures.others other apart ∙ c.loop.invariant.others other apart;
-  shares = c.clean_one.ensures.shares ∙ c.loop.invariant.shares;
+  choosing = c.clean_one.ensures.choosing ∙ c.loop.invariant.choosing;
   goes_on = went_then _ _ _ _ c.loop.invariant.goes_on c.clean_one.ensures.goes_on;
 }
 

@@ -5,7 +5,7 @@ use Rattle.replica_map.specs.Books.{SameRows}
 use Rattle.pool_state.specs.Books.{block_books, left_at}
 use Rattle.disk_model.specs.Marks.{GoesOn}
 use Rattle.pool_state.specs.Stands.{Stands, StandsForSome}
-use Rattle.pool_state.specs.Tenures.{Rests, KeepsWhole}
+use Rattle.pool_state.specs.Tenures.{Rests, KeepsWhole, ChoosesAsBefore}
 use Rattle.pool_state.proofs.pool_record.Pool.clean.Given as goal
 
 abbrev pub invariant-loop : goal.invariant-loop
@@ -18,6 +18,6 @@ invariant-loop g l = record {
   rows : SameRows l.fn.self.map l.self.map;
   tickets : l.self.map.tickets ≡ l.fn.self.map.tickets;
   others : (other : ℕ) → other ≢ l.id → block_books l.self.map other ≡ block_books l.fn.self.map other;
-  shares : l.self.shares ≡ l.fn.self.shares;
+  choosing : ChoosesAsBefore l.fn.self l.self;
   goes_on : GoesOn g.D.PoolDisks l.fn.self.disks l.self.disks;
 }

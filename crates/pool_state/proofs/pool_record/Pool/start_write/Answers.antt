@@ -21,7 +21,8 @@ use Rattle.pool_state.proofs.Changing.{pool_stands, changed_to, stands_unchanged
 use Rattle.pool_state.proofs.Entries.{nothing_said, become_alone}
 use Rattle.pool_state.proofs.Showing.{begins, calls, shown, stays_passes, passes_end, takes}
 use Rattle.pool_state.proofs.Starting.{refused_books, step_of, waits_passes, start_waits, start_grows, start_free, start_free_meta, is_absent}
-use Rattle.pool_state.specs.Rooms.{room_of}
+use Rattle.pool_state.specs.Rooms.{choosing_of, room_of}
+use Rattle.pool_state.proofs.Drawing.{drawn_by, failed_books, lacked_books, started_books}
 use Rattle.std.proofs.lemmas.Bool.{eq-eqb}
 use Rattle.pair_draft.specs.Writers.{writer_of}
 use Rattle.pool_state.proofs.Belonging.{told_empty, started_stands}
@@ -38,7 +39,8 @@ returns-in-Some-clause-step g c cells stands =
     (λ known old. (stands_unchanged c.args.id old refl refl (λ other. refl), begins _ _)) stands
 
 pub returns-in-Some-clause-books : goal.returns-in-Some-clause-books
-returns-in-Some-clause-books g c = refused_books c.in-Some.fault c.args.stamp c.args.need (block_books c.args.self.now.map c.args.id) c.in-Some.ensures.not_a_fault
+returns-in-Some-clause-books g c =
+    refused_books c.in-Some.fault _ c.args.stamp c.args.need (choosing_of c.args.self.now) (block_books c.args.self.now.map c.args.id) c.in-Some.ensures.not_a_fault
 
 pub returns-in_default-reserve_sums-clause-step : goal.returns-in_default-reserve_sums-clause-step
 returns-in_default-reserve_sums-clause-step g c cells stands =
@@ -69,13 +71,15 @@ returns-in_default-make_room-clause-step g c cells stands =
 pub create-requires-clause-free : goal.create-requires-clause-free
 create-requires-clause-free g c =
     let id = c.args.id in
-    subst (NoDraftAt (g.D.PoolDisks.worlds c.args.self.now.disks) 1) (sym (c.as_str.ensures ∙ c.rbw_block.ensures))
+    let vol = c.choose_volume-vol.result in
+    subst (NoDraftAt (g.D.PoolDisks.worlds c.args.self.now.disks) vol) (sym (c.as_str.ensures ∙ c.rbw_block.ensures))
     (start_free c.requires.stands.1 id c.write_refusal.ensures.valid
-    (nothing_said c.args.self.now.map id (c.requires.stands.1.fit id c.write_refusal.ensures.valid) (c.write_refusal.ensures.none c.in_default.is)) 1 WritingBlock refl)
+    (nothing_said c.args.self.now.map id (c.requires.stands.1.fit id c.write_refusal.ensures.valid) (c.write_refusal.ensures.none c.in_default.is)) vol WritingBlock refl)
 
 pub returns-in-Err-Failed-clause-step : goal.returns-in-Err-Failed-clause-step
 returns-in-Err-Failed-clause-step g c cells stands =
     let id = c.args.id in
+    let vol = c.choose_volume-vol.result in
     let map = c.args.self.now.map in
     let valid = c.write_refusal.ensures.valid in
     let no_entry = c.write_refusal.ensures.none c.in_default.is in
@@ -85,18 +89,18 @@ returns-in-Err-Failed-clause-step g c cells stands =
     let stamped = c.get-in_range.ensures.in_range in
     let none_left = ap (λ (b : BlockBooks). b.leftovers) (c.make_room.ensures.books id ∙ none) in
     let b = g.D.PoolDisks.next_number c.args.self.now.disks in
-    let w = writer_at c.args.stamp 1 c.args.need 0 b 0 in
-    let waiting_entry : Entry = record { id = id; stamp = c.args.stamp; len = c.args.need; vol = 1; rev = 0; state = Waiting } in
-    let step : View → View → Type 0 = λ before after. Fails before (create_in before 1 WritingBlock b) after in
-    let reaches = reaches_create_at id 1 WritingBlock b valid refl refl _ (c.as_str.ensures ∙ c.rbw_block.ensures) _ _ c.in-Err-Failed.ensures.worlds in
+    let w = writer_at c.args.stamp vol c.args.need c.args.self.now.next_rev b 0 in
+    let waiting_entry : Entry = record { id = id; stamp = c.args.stamp; len = c.args.need; vol = vol; rev = c.args.self.now.next_rev; state = Waiting } in
+    let step : View → View → Type 0 = λ before after. Fails before (create_in before vol WritingBlock b) after in
+    let reaches = reaches_create_at id vol WritingBlock b valid refl refl _ (c.as_str.ensures ∙ c.rbw_block.ensures) _ _ c.in-Err-Failed.ensures.worlds in
     takes waiting (step_of stands id valid none (room_of c.args.self.now) c.args.stamp c.args.need failed waiting (c.write_refusal.ensures.fits c.in_default.is) (inr refl))
     (λ e. refl, λ e w. absurd cc, λ e. inr refl, λ e. absurd cc)
     (λ known old.
-    let leads = start_waits old id valid none w stamped (omega arith, old.some_volume) step (block_left w true ∷ []) ((omega arith, old.some_volume), tt) (λ before after stepped. block_failed after stepped) in (
+    let leads = start_waits old id valid none w stamped c.choose_volume-vol.ensures.placed step (block_left w true ∷ []) (c.choose_volume-vol.ensures.placed, tt) (λ before after stepped. block_failed after stepped) in (
       pool_stands old id valid reaches c.in-Err-Failed.ensures.volumes leads
           (changed_to id (block_books map) (block_books made) _ _ _ c.add_half_created.ensures.books c.make_room.ensures.books
           (ap (λ l. with_leftover (held_block waiting_entry) (books_with None (Some waiting_entry) l)) none_left)),
-      calls _ (begins _ _) c.in-Err-Failed.ensures.time.nothing_else (shown old id valid step _ reaches waiting (waits_passes old id valid none w stamped (omega arith, old.some_volume) waiting leads)),
+      calls _ (begins _ _) c.in-Err-Failed.ensures.time.nothing_else (shown old id valid step _ reaches waiting (waits_passes old id valid none w stamped c.choose_volume-vol.ensures.placed waiting leads)),
     )) stands
 
 pub returns-in-Err-Memory-clause-step : goal.returns-in-Err-Memory-clause-step
@@ -118,16 +122,18 @@ returns-in-Err-Memory-clause-step g c cells stands =
 pub create-requires-2-clause-free : goal.create-requires-2-clause-free
 create-requires-2-clause-free g c =
     let id = c.args.id in
+    let vol = c.choose_volume-vol.result in
     let number = g.D.PoolDisks.next_number c.args.self.now.disks in
-    subst (NoDraftAt (g.D.PoolDisks.worlds c.create.new.self) 1) (sym (c.as_str-2.ensures ∙ c.rbw_meta.ensures))
+    subst (NoDraftAt (g.D.PoolDisks.worlds c.create.new.self) vol) (sym (c.as_str-2.ensures ∙ c.rbw_meta.ensures))
     (start_free_meta c.requires.stands.1 id c.write_refusal.ensures.valid
-    (nothing_said c.args.self.now.map id (c.requires.stands.1.fit id c.write_refusal.ensures.valid) (c.write_refusal.ensures.none c.in_default.is)) _ 1 number c.args.stamp c.get-in_range.ensures.in_range
+    (nothing_said c.args.self.now.map id (c.requires.stands.1.fit id c.write_refusal.ensures.valid) (c.write_refusal.ensures.none c.in_default.is)) _ vol number c.args.stamp c.get-in_range.ensures.in_range
     (is_stamp-IsStamp c.args.stamp c.get-in_range.ensures.in_range)
-    (reaches_created_at id 1 WritingBlock number c.write_refusal.ensures.valid refl refl _ (c.as_str.ensures ∙ c.rbw_block.ensures) _ _ c.in-Ok-create.ensures.ok))
+    (reaches_created_at id vol WritingBlock number c.write_refusal.ensures.valid refl refl _ (c.as_str.ensures ∙ c.rbw_block.ensures) _ _ c.in-Ok-create.ensures.ok))
 
 pub returns-in-Err-Failed-create-clause-step : goal.returns-in-Err-Failed-create-clause-step
 returns-in-Err-Failed-create-clause-step g c cells stands =
     let id = c.args.id in
+    let vol = c.choose_volume-vol.result in
     let map = c.args.self.now.map in
     let valid = c.write_refusal.ensures.valid in
     let no_entry = c.write_refusal.ensures.none c.in_default.is in
@@ -138,20 +144,20 @@ returns-in-Err-Failed-create-clause-step g c cells stands =
     let none_left = ap (λ (b : BlockBooks). b.leftovers) (c.make_room.ensures.books id ∙ none) in
     let b = g.D.PoolDisks.next_number c.args.self.now.disks in
     let m = g.D.PoolDisks.next_number c.create.new.self in
-    let w = writer_at c.args.stamp 1 c.args.need 0 b m in
-    let one : View → View → Type 0 = λ before after. after ≡ create_in before 1 WritingBlock b in
-    let waiting_entry : Entry = record { id = id; stamp = c.args.stamp; len = c.args.need; vol = 1; rev = 0; state = Waiting } in
-    let first = reaches_created_at id 1 WritingBlock b valid refl refl _ (c.as_str.ensures ∙ c.rbw_block.ensures) _ _ c.in-Ok-create.ensures.ok in
-    let step : View → View → Type 0 = Then one (λ before after. Fails before (create_in before 1 (WritingMeta c.args.stamp) m) after) in
+    let w = writer_at c.args.stamp vol c.args.need c.args.self.now.next_rev b m in
+    let one : View → View → Type 0 = λ before after. after ≡ create_in before vol WritingBlock b in
+    let waiting_entry : Entry = record { id = id; stamp = c.args.stamp; len = c.args.need; vol = vol; rev = c.args.self.now.next_rev; state = Waiting } in
+    let first = reaches_created_at id vol WritingBlock b valid refl refl _ (c.as_str.ensures ∙ c.rbw_block.ensures) _ _ c.in-Ok-create.ensures.ok in
+    let step : View → View → Type 0 = Then one (λ before after. Fails before (create_in before vol (WritingMeta c.args.stamp) m) after) in
     let reaches = reaches_then id _ _ _ _ _ first
-    (reaches_create_at id 1 (WritingMeta c.args.stamp) m valid (is_stamp-IsStamp c.args.stamp stamped) refl _ (c.as_str-2.ensures ∙ c.rbw_meta.ensures) _ _ c.in-Err-Failed-create.ensures.worlds) in
+    (reaches_create_at id vol (WritingMeta c.args.stamp) m valid (is_stamp-IsStamp c.args.stamp stamped) refl _ (c.as_str-2.ensures ∙ c.rbw_meta.ensures) _ _ c.in-Err-Failed-create.ensures.worlds) in
     takes waiting (step_of stands id valid none (room_of c.args.self.now) c.args.stamp c.args.need failed waiting (c.write_refusal.ensures.fits c.in_default.is) (inr refl))
     (λ e. refl, λ e w. absurd cc, λ e. inr refl, λ e. absurd cc)
     (λ known old.
-    let placed : IsVolume (g.D.PoolDisks.volume_count c.args.self.now.disks) 1 = (omega arith, old.some_volume) in
+    let placed : IsVolume (g.D.PoolDisks.volume_count c.args.self.now.disks) vol = c.choose_volume-vol.ensures.placed in
     let half = start_waits old id valid none w stamped placed one (block_left w true ∷ []) (placed, tt) (λ before after stepped. block_failed after (inr stepped)) in
     let leads = start_waits old id valid none w stamped placed step (block_left w true ∷ meta_left w true ∷ []) (placed, (placed, tt))
-    (λ before after stepped. meta_failed after (subst (λ v. Fails v (create_in v 1 (WritingMeta c.args.stamp) m) after) stepped.1 stepped.2)) in (
+    (λ before after stepped. meta_failed after (subst (λ v. Fails v (create_in v vol (WritingMeta c.args.stamp) m) after) stepped.1 stepped.2)) in (
       pool_stands old id valid reaches (c.in-Err-Failed-create.ensures.volumes ∙ c.in-Ok-create.ensures.volumes) leads
           (changed_to id (block_books map) (block_books made) _ _ _ c.add_created.ensures.books c.make_room.ensures.books
           (ap (λ l. with_leftover (held_meta waiting_entry) (with_leftover (held_block waiting_entry) (books_with None (Some waiting_entry) l))) none_left)),
@@ -162,6 +168,7 @@ returns-in-Err-Failed-create-clause-step g c cells stands =
 pub returns-in-Err-Memory-create-clause-step : goal.returns-in-Err-Memory-create-clause-step
 returns-in-Err-Memory-create-clause-step g c cells stands =
     let id = c.args.id in
+    let vol = c.choose_volume-vol.result in
     let map = c.args.self.now.map in
     let valid = c.write_refusal.ensures.valid in
     let no_entry = c.write_refusal.ensures.none c.in_default.is in
@@ -171,11 +178,11 @@ returns-in-Err-Memory-create-clause-step g c cells stands =
     let stamped = c.get-in_range.ensures.in_range in
     let none_left = ap (λ (b : BlockBooks). b.leftovers) (c.make_room.ensures.books id ∙ none) in
     let b = g.D.PoolDisks.next_number c.args.self.now.disks in
-    let w = writer_at c.args.stamp 1 c.args.need 0 b 0 in
-    let one : View → View → Type 0 = λ before after. after ≡ create_in before 1 WritingBlock b in
-    let waiting_entry : Entry = record { id = id; stamp = c.args.stamp; len = c.args.need; vol = 1; rev = 0; state = Waiting } in
+    let w = writer_at c.args.stamp vol c.args.need c.args.self.now.next_rev b 0 in
+    let one : View → View → Type 0 = λ before after. after ≡ create_in before vol WritingBlock b in
+    let waiting_entry : Entry = record { id = id; stamp = c.args.stamp; len = c.args.need; vol = vol; rev = c.args.self.now.next_rev; state = Waiting } in
     let same = c.in-Err-Memory-create.ensures.memory (ap Err c.in-Err-Memory-create.field-0-is) in
-    let first = reaches_created_at id 1 WritingBlock b valid refl refl _ (c.as_str.ensures ∙ c.rbw_block.ensures) _ _ c.in-Ok-create.ensures.ok in
+    let first = reaches_created_at id vol WritingBlock b valid refl refl _ (c.as_str.ensures ∙ c.rbw_block.ensures) _ _ c.in-Ok-create.ensures.ok in
     let step : View → View → Type 0 = Then one Stays in
     let reaches = reaches_then id _ _ _ _ _ first (reaches_same id _ _ same.0) in
     let starts : (before after : View) → step before after → StartsWrite before None w after (books_of (Some (writer_entry w is_waiting)) (block_left w true ∷ []) None) waiting =
@@ -183,7 +190,7 @@ returns-in-Err-Memory-create-clause-step g c cells stands =
     takes waiting (step_of stands id valid none (room_of c.args.self.now) c.args.stamp c.args.need memory waiting (c.write_refusal.ensures.fits c.in_default.is) (inr refl))
     (λ e. absurd cc, λ e w. omega (arith, same.1, c.in-Ok-create.ensures.number), λ e. inr refl, λ e. absurd cc)
     (λ known old.
-    let placed : IsVolume (g.D.PoolDisks.volume_count c.args.self.now.disks) 1 = (omega arith, old.some_volume) in
+    let placed : IsVolume (g.D.PoolDisks.volume_count c.args.self.now.disks) vol = c.choose_volume-vol.ensures.placed in
     let half = start_waits old id valid none w stamped placed one (block_left w true ∷ []) (placed, tt) (λ before after stepped. block_failed after (inr stepped)) in
     let leads = start_waits old id valid none w stamped placed step (block_left w true ∷ []) (placed, tt) starts in (
       pool_stands old id valid reaches (c.in-Err-Memory-create.ensures.volumes ∙ c.in-Ok-create.ensures.volumes) leads
@@ -196,6 +203,7 @@ returns-in-Err-Memory-create-clause-step g c cells stands =
 pub returns-clause-step : goal.returns-clause-step
 returns-clause-step g c cells stands =
     let id = c.args.id in
+    let vol = c.choose_volume-vol.result in
     let map = c.args.self.now.map in
     let valid = c.write_refusal.ensures.valid in
     let no_entry = c.write_refusal.ensures.none c.in_default.is in
@@ -206,22 +214,22 @@ returns-clause-step g c cells stands =
     let none_left = ap (λ (b : BlockBooks). b.leftovers) (c.make_room.ensures.books id ∙ none) in
     let b = g.D.PoolDisks.next_number c.args.self.now.disks in
     let m = g.D.PoolDisks.next_number c.create.new.self in
-    let w = writer_at c.args.stamp 1 c.args.need 0 b m in
-    let one : View → View → Type 0 = λ before after. after ≡ create_in before 1 WritingBlock b in
-    let first = reaches_created_at id 1 WritingBlock b valid refl refl _ (c.as_str.ensures ∙ c.rbw_block.ensures) _ _ c.in-Ok-create.ensures.ok in
+    let w = writer_at c.args.stamp vol c.args.need c.args.self.now.next_rev b m in
+    let one : View → View → Type 0 = λ before after. after ≡ create_in before vol WritingBlock b in
+    let first = reaches_created_at id vol WritingBlock b valid refl refl _ (c.as_str.ensures ∙ c.rbw_block.ensures) _ _ c.in-Ok-create.ensures.ok in
     let is_b : c.number.result ≡ b = c.number.ensures ∙ ap (λ (d : DraftPlace). d.number) c.in-Ok-create.ensures.place in
     let is_m : c.number-2.result ≡ m = c.number-2.ensures ∙ ap (λ (d : DraftPlace). d.number) c.in-Ok-create-2.ensures.place in
-    let entry : Entry = record { id = id; stamp = c.args.stamp; len = c.args.need; vol = 1; rev = 0; state = Writing } in
+    let entry : Entry = record { id = id; stamp = c.args.stamp; len = c.args.need; vol = vol; rev = c.args.self.now.next_rev; state = Writing } in
     let grown : ℕ → ℕ → Grown = λ block meta. record { base = None; reserved = c.args.need; block_no = block; meta_no = meta } in
     let becomes = changed_to id (block_books map) (block_books made) _ _ (written_books None [] None w) c.add_writer.ensures.books c.make_room.ensures.books
     (ap (λ l. books_with (Some (grown c.number.result c.number-2.result)) (Some entry) l) none_left
     ∙ ap (λ n. books_with (Some (grown n c.number-2.result)) (Some entry) []) is_b ∙ ap (λ n. books_with (Some (grown b n)) (Some entry) []) is_m) in
     let reaches = reaches_then id _ _ _ _ _ first
-    (reaches_created_at id 1 (WritingMeta c.args.stamp) m valid (is_stamp-IsStamp c.args.stamp stamped) refl _ (c.as_str-2.ensures ∙ c.rbw_meta.ensures) _ _ c.in-Ok-create-2.ensures.ok) in
+    (reaches_created_at id vol (WritingMeta c.args.stamp) m valid (is_stamp-IsStamp c.args.stamp stamped) refl _ (c.as_str-2.ensures ∙ c.rbw_meta.ensures) _ _ c.in-Ok-create-2.ensures.ok) in
     takes (growing c.args.stamp None [] c.args.need) (step_of stands id valid none (room_of c.args.self.now) c.args.stamp c.args.need done (growing c.args.stamp None [] c.args.need) (c.write_refusal.ensures.fits c.in_default.is) (refl, refl))
     (λ e. absurd cc, λ e w. absurd cc, λ e. absurd cc, λ e. refl)
     (λ known old.
-    let placed : IsVolume (g.D.PoolDisks.volume_count c.args.self.now.disks) 1 = (omega arith, old.some_volume) in
+    let placed : IsVolume (g.D.PoolDisks.volume_count c.args.self.now.disks) vol = c.choose_volume-vol.ensures.placed in
     let half = start_waits old id valid none w stamped placed one (block_left w true ∷ []) (placed, tt) (λ before after stepped. block_failed after (inr stepped)) in
     let leads = start_grows old id valid none w stamped placed in (
       pool_stands old id valid reaches (c.in-Ok-create-2.ensures.volumes ∙ c.in-Ok-create.ensures.volumes) leads becomes,
@@ -232,6 +240,7 @@ returns-clause-step g c cells stands =
 pub returns-clause-writer : goal.returns-clause-writer
 returns-clause-writer g c =
     let id = c.args.id in
+    let vol = c.choose_volume-vol.result in
     let map = c.args.self.now.map in
     let none = nothing_said map id (c.requires.stands.1.fit id c.write_refusal.ensures.valid) (c.write_refusal.ensures.none c.in_default.is) in
     let none_left = ap (λ (b : BlockBooks). b.leftovers) (c.make_room.ensures.books id ∙ none) in
@@ -239,15 +248,15 @@ returns-clause-writer g c =
     let m = g.D.PoolDisks.next_number c.create.new.self in
     let is_b : c.number.result ≡ b = c.number.ensures ∙ ap (λ (d : DraftPlace). d.number) c.in-Ok-create.ensures.place in
     let is_m : c.number-2.result ≡ m = c.number-2.ensures ∙ ap (λ (d : DraftPlace). d.number) c.in-Ok-create-2.ensures.place in
-    let entry : Entry = record { id = id; stamp = c.args.stamp; len = c.args.need; vol = 1; rev = 0; state = Writing } in
+    let entry : Entry = record { id = id; stamp = c.args.stamp; len = c.args.need; vol = vol; rev = c.args.self.now.next_rev; state = Writing } in
     let grown : ℕ → ℕ → Grown = λ block meta. record { base = None; reserved = c.args.need; block_no = block; meta_no = meta } in
-    let here : block_books c.add_writer.new.map id ≡ written_books None [] None (writer_at c.args.stamp 1 c.args.need 0 b m) = c.add_writer.ensures.books id
+    let here : block_books c.add_writer.new.map id ≡ written_books None [] None (writer_at c.args.stamp vol c.args.need c.args.self.now.next_rev b m) = c.add_writer.ensures.books id
     ∙ rw (eq-eqb id id refl) (ap (λ l. books_with (Some (grown c.number.result c.number-2.result)) (Some entry) l) none_left
     ∙ ap (λ n. books_with (Some (grown n c.number-2.result)) (Some entry) []) is_b ∙ ap (λ n. books_with (Some (grown b n)) (Some entry) []) is_m) in
-    started_stands (writer_of g.D.Draft.Draft.place g.D.Draft.Draft.bytes c.new.result) id c.args.stamp 1 c.args.need b m c.write_refusal.ensures.valid c.get-in_range.ensures.in_range
+    started_stands (writer_of g.D.Draft.Draft.place g.D.Draft.Draft.bytes c.new.result) id c.args.stamp vol c.args.need c.args.self.now.next_rev b m c.write_refusal.ensures.valid c.get-in_range.ensures.in_range
     c.new.ensures.id c.new.ensures.stamp c.new.ensures.vol c.new.ensures.reserved here
-    (ap g.D.Draft.Draft.place c.new.ensures.block ∙ c.in-Ok-create.ensures.place ∙ ap (λ p. draft_at b 1 p) (c.as_str.ensures ∙ c.rbw_block.ensures))
-    (ap (option_map g.D.Draft.Draft.place) c.new.ensures.meta ∙ ap Some (c.in-Ok-create-2.ensures.place ∙ ap (λ p. draft_at m 1 p) (c.as_str-2.ensures ∙ c.rbw_meta.ensures)))
+    (ap g.D.Draft.Draft.place c.new.ensures.block ∙ c.in-Ok-create.ensures.place ∙ ap (λ p. draft_at b vol p) (c.as_str.ensures ∙ c.rbw_block.ensures))
+    (ap (option_map g.D.Draft.Draft.place) c.new.ensures.meta ∙ ap Some (c.in-Ok-create-2.ensures.place ∙ ap (λ p. draft_at m vol p) (c.as_str-2.ensures ∙ c.rbw_meta.ensures)))
     (c.new.ensures.pushed _ (λ tells. c.in-Ok-create.ensures.empty ∙ told_empty _ (c.in-Ok-create.ensures.worlds.honest.1 (c.in-Ok-create-2.ensures.worlds.honest.1 tells)))
     (λ tells. c.in-Ok-create-2.ensures.empty ∙ told_empty _ (c.in-Ok-create-2.ensures.worlds.honest.1 tells)))
 
@@ -273,42 +282,55 @@ returns-clause-goes_on g c = went_then g.D.PoolDisks _ _ _
 pub returns-in-Err-Failed-clause-books : goal.returns-in-Err-Failed-clause-books
 returns-in-Err-Failed-clause-books g c =
     let id = c.args.id in
+    let vol = c.choose_volume-vol.result in
     let map = c.args.self.now.map in
     let none = nothing_said map id (c.requires.stands.1.fit id c.write_refusal.ensures.valid) (c.write_refusal.ensures.none c.in_default.is) in
-    let waiting_entry : Entry = record { id = id; stamp = c.args.stamp; len = c.args.need; vol = 1; rev = 0; state = Waiting } in
-    inl (become_alone c.make_room.new.map c.add_half_created.new.map (λ l. with_leftover (held_block waiting_entry) (books_with None (Some waiting_entry) l)) refl c.add_half_created.ensures.books
-    (ap (λ (b : BlockBooks). b.leftovers) (c.make_room.ensures.books id ∙ none)))
+    let waiting_entry : Entry = record { id = id; stamp = c.args.stamp; len = c.args.need; vol = vol; rev = c.args.self.now.next_rev; state = Waiting } in
+    failed_books _ c.args.stamp c.args.need (choosing_of c.args.self.now) (block_books map id) c.choose_volume-vol.ensures.value
+    (inl (become_alone c.make_room.new.map c.add_half_created.new.map (λ l. with_leftover (held_block waiting_entry) (books_with None (Some waiting_entry) l)) refl c.add_half_created.ensures.books
+    (ap (λ (b : BlockBooks). b.leftovers) (c.make_room.ensures.books id ∙ none))))
+    (drawn_by vol (choosing_of c.args.self.now) c.volume_after-self.ensures.value)
 
 pub returns-in-Err-Memory-clause-books : goal.returns-in-Err-Memory-clause-books
-returns-in-Err-Memory-clause-books g c = inl (c.make_room.ensures.books c.args.id)
+returns-in-Err-Memory-clause-books g c = inl (c.make_room.ensures.books c.args.id, refl)
 
 pub returns-in-Err-Failed-create-clause-books : goal.returns-in-Err-Failed-create-clause-books
 returns-in-Err-Failed-create-clause-books g c =
     let id = c.args.id in
+    let vol = c.choose_volume-vol.result in
     let map = c.args.self.now.map in
     let none = nothing_said map id (c.requires.stands.1.fit id c.write_refusal.ensures.valid) (c.write_refusal.ensures.none c.in_default.is) in
-    let waiting_entry : Entry = record { id = id; stamp = c.args.stamp; len = c.args.need; vol = 1; rev = 0; state = Waiting } in
-    inr (become_alone c.make_room.new.map c.add_created.new.map (λ l. with_leftover (held_meta waiting_entry) (with_leftover (held_block waiting_entry) (books_with None (Some waiting_entry) l))) refl c.add_created.ensures.books
-    (ap (λ (b : BlockBooks). b.leftovers) (c.make_room.ensures.books id ∙ none)))
+    let waiting_entry : Entry = record { id = id; stamp = c.args.stamp; len = c.args.need; vol = vol; rev = c.args.self.now.next_rev; state = Waiting } in
+    failed_books _ c.args.stamp c.args.need (choosing_of c.args.self.now) (block_books map id) c.choose_volume-vol.ensures.value
+    (inr (become_alone c.make_room.new.map c.add_created.new.map (λ l. with_leftover (held_meta waiting_entry) (with_leftover (held_block waiting_entry) (books_with None (Some waiting_entry) l))) refl c.add_created.ensures.books
+    (ap (λ (b : BlockBooks). b.leftovers) (c.make_room.ensures.books id ∙ none))))
+    (drawn_by vol (choosing_of c.args.self.now) c.volume_after-self-2.ensures.value)
 
 pub returns-in-Err-Memory-create-clause-books : goal.returns-in-Err-Memory-create-clause-books
 returns-in-Err-Memory-create-clause-books g c =
     let id = c.args.id in
+    let vol = c.choose_volume-vol.result in
     let map = c.args.self.now.map in
     let none = nothing_said map id (c.requires.stands.1.fit id c.write_refusal.ensures.valid) (c.write_refusal.ensures.none c.in_default.is) in
-    let waiting_entry : Entry = record { id = id; stamp = c.args.stamp; len = c.args.need; vol = 1; rev = 0; state = Waiting } in
-    inr (become_alone c.make_room.new.map c.add_half_created-in-Err-Memory-create.new.map (λ l. with_leftover (held_block waiting_entry) (books_with None (Some waiting_entry) l)) refl c.add_half_created-in-Err-Memory-create.ensures.books
+    let waiting_entry : Entry = record { id = id; stamp = c.args.stamp; len = c.args.need; vol = vol; rev = c.args.self.now.next_rev; state = Waiting } in
+    lacked_books _ c.args.stamp c.args.need (choosing_of c.args.self.now) (block_books map id) c.choose_volume-vol.ensures.value
+    (become_alone c.make_room.new.map c.add_half_created-in-Err-Memory-create.new.map (λ l. with_leftover (held_block waiting_entry) (books_with None (Some waiting_entry) l)) refl c.add_half_created-in-Err-Memory-create.ensures.books
     (ap (λ (b : BlockBooks). b.leftovers) (c.make_room.ensures.books id ∙ none)))
+    (drawn_by vol (choosing_of c.args.self.now) c.volume_after-self-2.ensures.value)
 
 pub returns-clause-books : goal.returns-clause-books
 returns-clause-books g c =
     let id = c.args.id in
+    let vol = c.choose_volume-vol.result in
     let map = c.args.self.now.map in
     let none = nothing_said map id (c.requires.stands.1.fit id c.write_refusal.ensures.valid) (c.write_refusal.ensures.none c.in_default.is) in
-    let entry : Entry = record { id = id; stamp = c.args.stamp; len = c.args.need; vol = 1; rev = 0; state = Writing } in
-    let grown : Grown = record { base = None; reserved = c.args.need; block_no = c.number.result; meta_no = c.number-2.result } in (
-      c.number.result,
-      c.number-2.result,
-      become_alone c.make_room.new.map c.add_writer.new.map (λ l. books_with (Some grown) (Some entry) l) refl c.add_writer.ensures.books
-          (ap (λ (b : BlockBooks). b.leftovers) (c.make_room.ensures.books id ∙ none)),
-    )
+    let entry : Entry = record { id = id; stamp = c.args.stamp; len = c.args.need; vol = vol; rev = c.args.self.now.next_rev; state = Writing } in
+    let grown : Grown = record { base = None; reserved = c.args.need; block_no = c.number.result; meta_no = c.number-2.result } in
+    started_books c.new.result c.args.stamp c.args.need c.number.result c.number-2.result (choosing_of c.args.self.now) (block_books map id) c.choose_volume-vol.ensures.value
+    (become_alone c.make_room.new.map c.add_writer.new.map (λ l. books_with (Some grown) (Some entry) l) refl c.add_writer.ensures.books
+    (ap (λ (b : BlockBooks). b.leftovers) (c.make_room.ensures.books id ∙ none)))
+    (drawn_by vol (choosing_of c.args.self.now) c.volume_after-self-2.ensures.value)
+
+pub returns-in-Err-Failed-clause-goes_on : goal.returns-in-Err-Failed-clause-goes_on
+returns-in-Err-Failed-clause-goes_on g c =
+    went_call g.D.PoolDisks (g.met.D.PoolDisks.counts_now _) c.in-Err-Failed.ensures.time c.in-Err-Failed.ensures.worlds.honest c.in-Err-Failed.ensures.cause.later c.in-Err-Failed.ensures.absences c.in-Err-Failed.ensures.numbers.later c.in-Err-Failed.ensures.volumes
