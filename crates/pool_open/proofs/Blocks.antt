@@ -1,356 +1,222 @@
--- What clearing leaves of one block, and what the books and the cell of the block say of it.
-use Rattle.std.proofs.Common.{◌≡◌, ◌⊎◌, ◌↔◌, ◌≤◌, inl, inr, ℕ, Bool, true, false, List, [], ◌∷◌, Option, Some, None, Contains, refl, ap, sym, ◌∙◌, subst, IsTrue, length, arith}
-use Rattle.std.specs.Prelude.{is_some, unwrap_or, IsSomeAnd}
+-- What clearing leaves of one block, and what is read of it.
+use Rattle.std.proofs.Common.{◌≡◌, ◌⊎◌, ◌≤◌, inl, inr, ℕ, true, false, not, List, [], Option, Some, None, Contains, refl, ap, sym, ◌∙◌, subst, IsTrue, length, arith}
+use Rattle.std.specs.Prelude.{is_some, unwrap_or, IsSome, IsSomeAnd, ◌==◌}
 use Rattle.std.proofs.lemmas.Bool.{false≢true}
-use Rattle.disk_model.proofs.Laws.{only_one}
-use Rattle.disk_model.specs.Worlds.{World}
-use Rattle.volume_layout.specs.Paths.{IsStamp, block_path}
-use Rattle.map_model.specs.Cells.{Replica, Cell, absent, final, waiting}
-use Rattle.map_model.specs.Copies.{Spot, BlockFiles, IsCopy, IsAlone, ReadsAs}
-use Rattle.map_model.specs.Sound.{HasSoundCopies}
-use Rattle.map_model.specs.Openings.{LeavesBlockFile, MakesCell}
+use Rattle.std.proofs.lemmas.Bool.Decides.{eqb_tells}
+use Rattle.volume_layout.specs.Choice.{AtLeast}
 use Rattle.volume_layout.specs.declared.block_file.BlockFile.{BlockFile}
-use Rattle.volume_layout.specs.declared.block_file.BlockFile.TheVariants.{Block, Meta, WritingBlock, WritingMeta, TemporaryBlock, TemporaryMeta}
+use Rattle.volume_layout.specs.declared.block_file.BlockFile.TheVariants.{Block, Meta}
+use Rattle.map_model.specs.Cells.{Replica}
+use Rattle.map_model.specs.Copies.{Spot, own_spot, spot_rank, BlockFiles, IsOnlyMeta, IsCopy, IsAlone, AtLeastCopy, IsGreatestCopy, ReadsAs}
+use Rattle.map_model.specs.Sound.{HasSoundCopies}
 use Rattle.map_model.specs.Slots.{Slot, empty, holds, drafted, is_standing, bytes_in, View, files_in}
-use Rattle.map_model.specs.Stands.{IsListed, HasNoPair, IsFinalised, Leftover, EntryState, is_final, is_written, in_doubt, is_waiting, StateNames, Entry, BlockBooks, BlockStands}
-use Rattle.map_model.specs.Tenures.{books_of}
+use Rattle.map_model.specs.Stands.{HasNoPair, IsFinalised}
 use Rattle.map_model.proofs.SlotLemmas.{bytes-standing}
-use Rattle.map_model.proofs.OneReading.{ReadsAs-unique}
+use Rattle.map_model.proofs.Spots.{spot_rank-injective}
+use Rattle.map_model.proofs.OneReading.{IsCopy-unique, ReadsAs-unique}
+use Rattle.map_model.proofs.Readings.{KeepsStamp-meta, KeepsStamp-only}
 use Rattle.pool_survey.specs.declared.found.FoundFiles.{FoundFiles}
-use Rattle.pool_survey.specs.Found.{has_block, metas_of, has_writing}
-use Rattle.pool_open.specs.declared.outcome.Outcome.{Outcome}
-use Rattle.pool_open.specs.declared.outcome.Outcome.TheVariants.{Final, Waiting, Absent}
-use Rattle.pool_open.specs.Plan.{outcome_of, kept_files}
-use Rattle.pool_open.specs.Found.{entry_of, IsSizeOf, IsFinalEntry, IsWaitingEntry, SaysNothing, SaysOutcome, SaysFound}
-use Rattle.pool_open.proofs.Slots.{OnePair, replica_of, pair_reads, pair_alone, no_pair_reads, no_pair_alone, absent_stands, final_stands, waiting_stands, lists_block, lists_writing, lists_meta, kept_fits}
-
--- ---- the three outcomes
-
-pub record MakesFinal (files : FoundFiles) : Type 0 where
-  pub stamp : ℕ
-  pub more : List ℕ
-  pub is : outcome_of files ≡ Final stamp
-  pub block_there : files.block ≡ true
-  pub metas_are : files.metas.items ≡ stamp ∷ more
-
-pub record MakesWaiting (files : FoundFiles) : Type 0 where
-  pub is : outcome_of files ≡ Waiting
-  pub lone : files.block ≡ true → files.metas.items ≡ []
-  pub some : (files.block ≡ true) ⊎ (files.writing ≡ true)
-
-pub record MakesAbsent (files : FoundFiles) : Type 0 where
-  pub is : outcome_of files ≡ Absent
-  pub no_block : files.block ≡ false
-  pub no_writing : files.writing ≡ false
-
-by_metas : (files : FoundFiles) (metas : List ℕ) → files.block ≡ true → files.metas.items ≡ metas → MakesFinal files ⊎ (MakesWaiting files ⊎ MakesAbsent files)
-by_metas files [] there are = inr (inl (record { is = rw there (rw are refl); lone = λ is. are; some = inl there }))
-by_metas files (stamp ∷ more) there are = inl (record { stamp = stamp; more = more; is = rw there (rw are refl); block_there = there; metas_are = are })
-
-by_writing : (files : FoundFiles) (written : Bool) → files.block ≡ false → files.writing ≡ written → MakesFinal files ⊎ (MakesWaiting files ⊎ MakesAbsent files)
-by_writing files true none is =
-    inr (inl (record { is = rw none (rw is refl); lone = λ there. absurd (false≢true (sym none ∙ there)); some = inr is }))
-by_writing files false none is = inr (inr (record { is = rw none (rw is refl); no_block = none; no_writing = is }))
-
-by_block : (files : FoundFiles) (there : Bool) → files.block ≡ there → MakesFinal files ⊎ (MakesWaiting files ⊎ MakesAbsent files)
-by_block files true is = by_metas files files.metas.items is refl
-by_block files false is = by_writing files files.writing is refl
-
-pub outcome_cases : (files : FoundFiles) → MakesFinal files ⊎ (MakesWaiting files ⊎ MakesAbsent files)
-outcome_cases files = by_block files files.block refl
-
--- ---- what clearing leaves
-
--- The files of a block as they were found and as they are while they are cleared: the block file stays, and the metas beside one.
-pub record Partly (found : Option FoundFiles) (was now : View) : Type 0 where
-  pub alike : (vol : ℕ) (file : BlockFile) → (now vol file ≡ was vol file) ⊎ (now vol file ≡ empty)
-  pub block_kept : now 1 Block ≡ was 1 Block
-  pub meta_kept : has_block found ≡ true → (stamp : ℕ) → now 1 (Meta stamp) ≡ was 1 (Meta stamp)
-  pub on_one : (vol : ℕ) (file : BlockFile) → IsTrue (is_standing (was vol file)) → vol ≡ 1
-  pub settled : (vol : ℕ) (file : BlockFile) (number : ℕ) → IsFinalised file → was vol file ≡ drafted number → ⊥
-  pub block_is : has_block found ≡ is_standing (was 1 Block)
-  pub writing_is : has_writing found ≡ is_standing (was 1 WritingBlock)
-  pub metas_are : (stamp : ℕ) → Contains (metas_of found) stamp ↔ IsTrue (is_standing (was 1 (Meta stamp)))
-  pub few : length (metas_of found) ≤ 1
-
--- what may stand when all was cleared
-abbrev pub Left : FoundFiles → BlockFile → Type 0
-Left files Block = files.block ≡ true
-Left files (Meta stamp) = (files.block ≡ true) × Contains files.metas.items stamp
-Left files WritingBlock = ((other : ℕ) → outcome_of files ≡ Final other → ⊥) × (files.writing ≡ true)
-Left files (WritingMeta stamp) = ((other : ℕ) → outcome_of files ≡ Final other → ⊥) × (files.writing ≡ true) × Contains files.writing_metas.items stamp
-Left files TemporaryBlock = ⊥
-Left files (TemporaryMeta stamp) = ⊥
-
-abbrev pub LeftOf : Option FoundFiles → BlockFile → Type 0
-LeftOf None file = ⊥
-LeftOf (Some files) file = Left files file
+use Rattle.pool_survey.specs.Found.{metas_of}
+use Rattle.pool_survey.specs.Directories.{is_looked_for}
+use Rattle.pool_open.proofs.Placed.{first_in, copy_of, copy_found, found_copy, copy_meta, no_copy_meta}
+use Rattle.pool_open.proofs.Planned.{IsFound, goes}
+use Rattle.pool_open.proofs.Slots.{replica_of, no_pair_reads, no_pair_alone}
 
 -- the settled bytes of a slot
 abbrev pub slot_bytes : Slot → List ℕ
 slot_bytes slot = unwrap_or (bytes_in slot) []
 
-held_slot : (slot : Slot) → IsTrue (is_standing slot) → ((number : ℕ) → slot ≡ drafted number → ⊥) → slot ≡ holds (slot_bytes slot)
+pub held_slot : (slot : Slot) → IsTrue (is_standing slot) → ((number : ℕ) → slot ≡ drafted number → ⊥) → slot ≡ holds (slot_bytes slot)
 held_slot empty there not_drafted = absurd (false≢true there)
 held_slot (holds bytes) there not_drafted = refl
 held_slot (drafted number) there not_drafted = absurd (not_drafted number refl)
 
-none_in : {X : Type 0} (x : X) → Contains {X = X} [] x → ⊥
-none_in x has = absurd (omega (arith, has.1))
+-- the files of a block, as they were found on the volumes
+pub record IsShown (found : ℕ → Option FoundFiles) (was : View) : Type 0 where
+  pub stands : (vol : ℕ) (file : BlockFile) → IsFound (found vol) file → IsTrue (is_standing (was vol file))
+  pub stood : (vol : ℕ) (file : BlockFile) → is_looked_for file ≡ true → IsTrue (is_standing (was vol file)) → IsFound (found vol) file
+  pub settled : (vol : ℕ) (file : BlockFile) (number : ℕ) → IsFinalised file → was vol file ≡ drafted number → ⊥
+  pub few : (vol : ℕ) → length (metas_of (found vol)) ≤ 1
 
--- the only meta
-only_stamp : (metas : List ℕ) (stamp : ℕ) (more : List ℕ) (other : ℕ) → metas ≡ stamp ∷ more → length metas ≤ 1 → Contains metas other → other ≡ stamp
-only_stamp metas stamp [] other are few has = sym (only_one stamp other (subst (λ (ms : List ℕ). Contains ms other) are has))
-only_stamp metas stamp (next ∷ more) other are few has =
-    let long : length metas ≡ length (stamp ∷ next ∷ more) = ap length are in
-    absurd (omega (arith, few, long))
+-- and as they are while they are cleared: each is as it was or gone, and what doesn't go is as it was
+pub record Partly (kept : Option ℕ) (found : ℕ → Option FoundFiles) (was now : View) : Type 0 where
+  pub alike : (vol : ℕ) (file : BlockFile) → (now vol file ≡ was vol file) ⊎ (now vol file ≡ empty)
+  pub stays : (vol : ℕ) (file : BlockFile) → goes kept (found vol) vol file ≡ false → now vol file ≡ was vol file
 
-module _ (found : Option FoundFiles) (was now : View) (partly : Partly found was now) where
+pub partly_none : (kept : Option ℕ) (found : ℕ → Option FoundFiles) (was : View) → Partly kept found was was
+partly_none kept found was = record { alike = λ vol file. inl refl; stays = λ vol file is. refl }
+
+-- the length of the block file on a volume
+abbrev pub len_on : View → ℕ → ℕ
+len_on was vol = length (slot_bytes (was vol Block))
+
+-- the copy on this volume, of this stamp, is the greatest that was found
+pub record KeepsCopy (found : ℕ → Option FoundFiles) (was : View) (own stamp : ℕ) : Type 0 where
+  pub here : copy_of (found own) ≡ Some stamp
+  pub greatest : (vol other : ℕ) → copy_of (found vol) ≡ Some other → AtLeast stamp (len_on was own) own other (len_on was vol) vol
+
+-- no copy was found
+abbrev pub NoCopy : (ℕ → Option FoundFiles) → Type 0
+NoCopy found = (vol : ℕ) → copy_of (found vol) ≡ None
+
+-- two copies that are the greatest are one
+pub greatest_one : (files : BlockFiles) (spot : Spot) (a : Replica) (other : Spot) (b : Replica) → IsGreatestCopy files spot a → IsGreatestCopy files other b → (spot ≡ other) × (a ≡ b)
+greatest_one files spot a other b first second =
+    let up : AtLeastCopy spot a other b = first.greatest other b second.copy in
+    let down : AtLeastCopy other b spot a = second.greatest spot a first.copy in
+    let ranks : spot_rank spot ≡ spot_rank other = same_rank spot a other b up down in
+    let same : spot ≡ other = spot_rank-injective spot other ranks in
+    let P : Spot → Type 0 = λ s. IsCopy files s a in
+    (same, IsCopy-unique files other a b (subst P same first.copy) second.copy)
+  where
+    same_rank : (spot : Spot) (a : Replica) (other : Spot) (b : Replica) → AtLeastCopy spot a other b → AtLeastCopy other b spot a → spot_rank spot ≡ spot_rank other
+    same_rank spot a other b up down = grind arith
+
+module _ (kept : Option ℕ) (found : ℕ → Option FoundFiles) (was now : View) (shown : IsShown found was) (partly : Partly kept found was now) where
   pub was_standing : (vol : ℕ) (file : BlockFile) → IsTrue (is_standing (now vol file)) → IsTrue (is_standing (was vol file))
   was_standing vol file there = elim (partly.alike vol file) [
     | inl same ↦ sym (ap is_standing same) ∙ there
     | inr gone ↦ absurd (false≢true (sym (ap is_standing gone) ∙ there))
   ]
 
-  pub now_settled : (vol : ℕ) (file : BlockFile) (number : ℕ) → IsFinalised file → now vol file ≡ drafted number → ⊥
-  now_settled vol file number is drafts = elim (partly.alike vol file) [
-    | inl same ↦ partly.settled vol file number is (sym same ∙ drafts)
-    | inr gone ↦ false≢true (sym (ap is_standing gone) ∙ ap is_standing drafts)
+  pub same_standing : (vol : ℕ) (file : BlockFile) → IsTrue (is_standing (now vol file)) → now vol file ≡ was vol file
+  same_standing vol file there = elim (partly.alike vol file) [
+    | inl same ↦ same
+    | inr gone ↦ absurd (false≢true (sym (ap is_standing gone) ∙ there))
   ]
 
-  block_found : (vol : ℕ) → IsTrue (is_standing (now vol Block)) → has_block found ≡ true
-  block_found vol there =
-      let was_there = was_standing vol Block there in
-      partly.block_is ∙ subst (λ v. is_standing (was v Block) ≡ true) (partly.on_one vol Block was_there) was_there
+  pub now_settled : (vol : ℕ) (file : BlockFile) (number : ℕ) → IsFinalised file → now vol file ≡ drafted number → ⊥
+  now_settled vol file number is drafts =
+      let there : IsTrue (is_standing (now vol file)) = ap is_standing drafts in
+      shown.settled vol file number is (sym (same_standing vol file there) ∙ drafts)
 
-  meta_found : (vol stamp : ℕ) → IsTrue (is_standing (now vol (Meta stamp))) → Contains (metas_of found) stamp
-  meta_found vol stamp there =
-      let was_there = was_standing vol (Meta stamp) there in
-      (partly.metas_are stamp).1 (subst (λ v. is_standing (was v (Meta stamp)) ≡ true) (partly.on_one vol (Meta stamp) was_there) was_there)
+  pub now_found : (vol : ℕ) (file : BlockFile) → is_looked_for file ≡ true → IsTrue (is_standing (now vol file)) → IsFound (found vol) file
+  now_found vol file looked there = shown.stood vol file looked (was_standing vol file there)
 
-  -- no pair
-  pub lone_no_pair : (has_block found ≡ true → metas_of found ≡ []) → HasNoPair now
-  lone_no_pair lone vol stamp has_block_file has_meta =
-      none_in stamp (subst (λ (ms : List ℕ). Contains ms stamp) (lone (block_found vol has_block_file)) (meta_found vol stamp has_meta))
+  -- without a copy no pair stands
+  pub lone_no_pair : NoCopy found → HasNoPair now
+  lone_no_pair none vol stamp block meta =
+      no_copy_meta (found vol) stamp (shown.few vol) (none vol) (now_found vol Block refl block) (now_found vol (Meta stamp) refl meta)
 
-  -- a pair
-  pub final_one_pair : (stamp : ℕ) (more : List ℕ) → has_block found ≡ true → metas_of found ≡ stamp ∷ more →
-      OnePair now stamp (slot_bytes (was 1 Block)) (slot_bytes (was 1 (Meta stamp)))
-  final_one_pair stamp more there are = record {
-    block_file = partly.block_kept ∙ held_slot (was 1 Block) (sym partly.block_is ∙ there) (λ number. partly.settled 1 Block number tt);
-    meta_file = partly.meta_kept there stamp ∙ held_slot (was 1 (Meta stamp))
-        ((partly.metas_are stamp).0 (subst (λ (ms : List ℕ). Contains ms stamp) (sym are) (0, omega arith, refl)))
-        (λ number. partly.settled 1 (Meta stamp) number tt);
-    only_block = λ vol standing. partly.on_one vol Block (was_standing vol Block standing);
-    only_meta = λ vol other standing. (
-      partly.on_one vol (Meta other) (was_standing vol (Meta other) standing),
-      only_stamp (metas_of found) stamp more other are partly.few (meta_found vol other standing),
-    );
-  }
+  -- a copy that stands was found
+  pub copy_stands : (spot : Spot) (replica : Replica) → IsCopy (files_in now) spot replica →
+      (copy_of (found spot.vol) ≡ Some replica.stamp) × (replica.bytes ≡ slot_bytes (was spot.vol Block))
+  copy_stands spot replica copy =
+      let block = bytes-standing (now spot.vol Block) (ap is_some copy.block) in
+      let meta = bytes-standing (now spot.vol (Meta replica.stamp)) (KeepsStamp-meta (files_in now) spot replica.stamp copy.stamp) in (
+        found_copy (found spot.vol) replica.stamp (shown.few spot.vol) (now_found spot.vol Block refl block) (now_found spot.vol (Meta replica.stamp) refl meta),
+        sym (ap (λ o. unwrap_or o []) copy.block) ∙ ap slot_bytes (same_standing spot.vol Block block),
+      )
+
+  module _ (own stamp : ℕ) (at : kept ≡ Some own) (keeps : KeepsCopy found was own stamp) where
+    own_stays : (file : BlockFile) → goes (Some own) (found own) own file ≡ false → now own file ≡ was own file
+    own_stays file is = partly.stays own file (subst (λ k. goes k (found own) own file ≡ false) (sym at) is)
+
+    not_self : not (own == own) ≡ false
+    not_self = elim (eqb_tells own own) [ inl same ↦ ap not same.0 | inr apart ↦ absurd (apart.1 refl) ]
+
+    has_meta : Contains (metas_of (found own)) stamp
+    has_meta =
+        let copy = copy_found (found own) stamp keeps.here in
+        subst (λ (ms : List ℕ). Contains ms stamp) (sym copy.2) (first_in stamp copy.1)
+
+    pub own_block : now own Block ≡ holds (slot_bytes (was own Block))
+    own_block = own_stays Block not_self
+        ∙ held_slot (was own Block) (shown.stands own Block (copy_found (found own) stamp keeps.here).0) (λ number. shown.settled own Block number tt)
+
+    pub own_meta : now own (Meta stamp) ≡ holds (slot_bytes (was own (Meta stamp)))
+    own_meta = own_stays (Meta stamp) not_self
+        ∙ held_slot (was own (Meta stamp)) (shown.stands own (Meta stamp) has_meta) (λ number. shown.settled own (Meta stamp) number tt)
+
+    pub only_here : IsOnlyMeta (files_in now) (own_spot own) stamp
+    only_here = record {
+      stands = ap (λ s. is_some (bytes_in s)) own_meta;
+      only = λ other has. copy_meta (found own) stamp other (shown.few own) keeps.here (now_found own (Meta other) refl (bytes-standing (now own (Meta other)) has));
+    }
+
+    -- THE KEPT COPY IS WHAT IS READ
+    pub keeps_greatest : IsGreatestCopy (files_in now) (own_spot own) (replica_of stamp (slot_bytes (was own Block)))
+    keeps_greatest = record {
+      copy = record { block = ap bytes_in own_block; stamp = KeepsStamp-only (files_in now) (own_spot own) stamp only_here };
+      greatest = λ other_spot other copy.
+          let stands = copy_stands other_spot other copy in
+          subst (λ (b : List ℕ). AtLeast stamp (len_on was own) own other.stamp (length b) other_spot.vol) (sym stands.1) (keeps.greatest other_spot.vol other.stamp stands.0);
+    }
 
 -- ---- what is read
 
--- what is read of a block of which this was found, whose block file has these bytes
-abbrev pub read_by : Outcome → List ℕ → Option Replica
-read_by (Final stamp) bytes = Some (replica_of stamp bytes)
-read_by Waiting bytes = None
-read_by Absent bytes = None
+-- what an opening makes of a block: its greatest copy, or none
+pub data IsMade (kept : Option ℕ) (found : ℕ → Option FoundFiles) (was : View) : Type 0 where
+  made_copy : (own stamp : ℕ) → kept ≡ Some own → KeepsCopy found was own stamp → IsMade kept found was
+  made_none : kept ≡ None → NoCopy found → IsMade kept found was
 
-abbrev pub read_of : Option FoundFiles → List ℕ → Option Replica
-read_of None bytes = None
-read_of (Some files) bytes = read_by (outcome_of files) bytes
+module _ (kept : Option ℕ) (found : ℕ → Option FoundFiles) (was now : View) (shown : IsShown found was) (partly : Partly kept found was now) where
+  -- what was read is read
+  pub reads_on : IsMade kept found was → (replica : Option Replica) → ReadsAs (files_in was) replica → ReadsAs (files_in now) replica
+  reads_on (made_copy own stamp at keeps) replica reads =
+      let r : Option Replica = Some (replica_of stamp (slot_bytes (was own Block))) in
+      let before : ReadsAs (files_in was) r = (own_spot own, keeps_greatest kept found was was shown (partly_none kept found was) own stamp at keeps) in
+      let after : ReadsAs (files_in now) r = (own_spot own, keeps_greatest kept found was now shown partly own stamp at keeps) in
+      subst (λ (o : Option Replica). ReadsAs (files_in now) o) (ReadsAs-unique (files_in was) r replica before reads) after
+  reads_on (made_none at none) replica reads =
+      let before : ReadsAs (files_in was) None = no_pair_reads was (lone_no_pair kept found was was shown (partly_none kept found was) none) in
+      let after : ReadsAs (files_in now) None = no_pair_reads now (lone_no_pair kept found was now shown partly none) in
+      subst (λ (o : Option Replica). ReadsAs (files_in now) o) (ReadsAs-unique (files_in was) None replica before reads) after
 
-pub reads_partly : (found : Option FoundFiles) (was now : View) → Partly found was now → ReadsAs (files_in now) (read_of found (slot_bytes (was 1 Block)))
-reads_partly None was now partly = no_pair_reads now (lone_no_pair None was now partly (λ there. refl))
-reads_partly (Some files) was now partly =
-    let P : Outcome → Type 0 = λ o. ReadsAs (files_in now) (read_by o (slot_bytes (was 1 Block))) in
-    elim (outcome_cases files) [
-      | inl made ↦ subst P (sym made.is) (pair_reads now made.stamp (slot_bytes (was 1 Block)) (slot_bytes (was 1 (Meta made.stamp)))
-          (final_one_pair (Some files) was now partly made.stamp made.more made.block_there made.metas_are))
-      | inr (inl made) ↦ subst P (sym made.is) (no_pair_reads now (lone_no_pair (Some files) was now partly made.lone))
-      | inr (inr made) ↦ subst P (sym made.is) (no_pair_reads now (lone_no_pair (Some files) was now partly (λ there. absurd (false≢true (sym made.no_block ∙ there)))))
-    ]
+  -- copies that matched their metas still do
+  pub sound_on : (M : List ℕ → Replica → Type 0) → IsMade kept found was → HasSoundCopies M (files_in was) → HasSoundCopies M (files_in now)
+  sound_on M (made_copy own stamp at keeps) sound spot replica greatest =
+      let r : Replica = replica_of stamp (slot_bytes (was own Block)) in
+      let own_was : IsGreatestCopy (files_in was) (own_spot own) r = keeps_greatest kept found was was shown (partly_none kept found was) own stamp at keeps in
+      let own_now : IsGreatestCopy (files_in now) (own_spot own) r = keeps_greatest kept found was now shown partly own stamp at keeps in
+      let one = greatest_one (files_in now) (own_spot own) r spot replica own_now greatest in
+      let matched : IsSomeAnd (bytes_in (was own (Meta stamp))) (λ content. M content r) = sound (own_spot own) r own_was in
+      let same : was own (Meta stamp) ≡ now own (Meta stamp) =
+      own_meta kept found was was shown (partly_none kept found was) own stamp at keeps ∙ sym (own_meta kept found was now shown partly own stamp at keeps) in
+      let still : IsSomeAnd (bytes_in (now own (Meta stamp))) (λ content. M content r) =
+      subst (λ (slot : Slot). IsSomeAnd (bytes_in slot) (λ content. M content r)) same matched in
+      let P : Spot → Replica → Type 0 = λ s x. IsSomeAnd (bytes_in (now s.vol (Meta x.stamp))) (λ content. M content x) in
+      let here : P spot r = subst (λ (s : Spot). P s r) one.0 still in
+      subst (λ (x : Replica). P spot x) one.1 here
+  sound_on M (made_none at none) sound spot replica greatest =
+      let after : ReadsAs (files_in now) None = no_pair_reads now (lone_no_pair kept found was now shown partly none) in
+      absurd (after spot replica greatest.copy)
 
-pub alone_partly : (found : Option FoundFiles) (was now : View) → Partly found was now →
-    (spot : Spot) (replica : Replica) → IsCopy (files_in now) spot replica → IsAlone (files_in now) spot
-alone_partly None was now partly = no_pair_alone now (lone_no_pair None was now partly (λ there. refl))
-alone_partly (Some files) was now partly =
-    elim (outcome_cases files) [
-      | inl made ↦ pair_alone now made.stamp (slot_bytes (was 1 Block)) (slot_bytes (was 1 (Meta made.stamp)))
-          (final_one_pair (Some files) was now partly made.stamp made.more made.block_there made.metas_are)
-      | inr (inl made) ↦ no_pair_alone now (lone_no_pair (Some files) was now partly made.lone)
-      | inr (inr made) ↦ no_pair_alone now (lone_no_pair (Some files) was now partly (λ there. absurd (false≢true (sym made.no_block ∙ there))))
-    ]
+  -- and where each copy was alone, it is
+  pub alone_on : IsMade kept found was → ((spot : Spot) (replica : Replica) → IsCopy (files_in was) spot replica → IsAlone (files_in was) spot) →
+      (spot : Spot) (replica : Replica) → IsCopy (files_in now) spot replica → IsAlone (files_in now) spot
+  alone_on (made_none at none) whole spot replica copy = no_pair_alone now (lone_no_pair kept found was now shown partly none) spot replica copy
+  alone_on (made_copy own stamp at keeps) whole spot replica copy =
+      let r : Replica = replica_of stamp (slot_bytes (was own Block)) in
+      let own_was : IsGreatestCopy (files_in was) (own_spot own) r = keeps_greatest kept found was was shown (partly_none kept found was) own stamp at keeps in
+      let alone : IsAlone (files_in was) (own_spot own) = whole (own_spot own) r own_was.copy in
+      let back : (vol : ℕ) (file : BlockFile) → IsSome (bytes_in (now vol file)) → IsSome (bytes_in (was vol file)) =
+      λ vol file some. sym (ap (λ s. is_some (bytes_in s)) (same_standing kept found was now shown partly vol file (bytes-standing (now vol file) some))) ∙ some in
+      let here : spot ≡ own_spot own = alone.no_block spot (back spot.vol Block (ap is_some copy.block)) in
+      let P : Spot → Type 0 = λ s. IsOnlyMeta (files_in now) s stamp in
+      record {
+        one_meta = (stamp, subst P (sym here) (only_here kept found was now shown partly own stamp at keeps));
+        no_block = λ other has. alone.no_block other (back other.vol Block has) ∙ sym here;
+        no_meta = λ other s has. alone.no_meta other s (back other.vol (Meta s) has) ∙ sym here;
+      }
 
--- and copies that matched their metas still do
-pub sound_partly : (M : List ℕ → Replica → Type 0) (found : Option FoundFiles) (was now : View) → Partly found was was → Partly found was now →
-    HasSoundCopies M (files_in was) → HasSoundCopies M (files_in now)
-sound_partly M found was now own partly sound spot replica greatest =
-    let bytes = slot_bytes (was 1 Block) in
-    let same : read_of found bytes ≡ Some replica = ReadsAs-unique (files_in now) (read_of found bytes) (Some replica) (reads_partly found was now partly) (spot, greatest) in
-    let before : ReadsAs (files_in was) (Some replica) = subst (λ (r : Option Replica). ReadsAs (files_in was) r) same (reads_partly found was was own) in
-    let standing = bytes-standing (now spot.vol Block) (ap is_some greatest.copy.block) in
-    let here : spot.vol ≡ 1 = partly.on_one spot.vol Block (was_standing found was now partly spot.vol Block standing) in
-    let there : before.0.vol ≡ 1 = own.on_one before.0.vol Block (bytes-standing (was before.0.vol Block) (ap is_some before.1.copy.block)) in
-    let kept : now 1 (Meta replica.stamp) ≡ was 1 (Meta replica.stamp) = partly.meta_kept (block_found found was now partly spot.vol standing) replica.stamp in
-    let matched : IsSomeAnd (bytes_in (was before.0.vol (Meta replica.stamp))) (λ content. M content replica) = sound before.0 replica before.1 in
-    let on_one : IsSomeAnd (bytes_in (was 1 (Meta replica.stamp))) (λ content. M content replica) =
-    subst (λ v. IsSomeAnd (bytes_in (was v (Meta replica.stamp))) (λ content. M content replica)) there matched in
-    let still : IsSomeAnd (bytes_in (now 1 (Meta replica.stamp))) (λ content. M content replica) =
-    subst (λ (slot : Slot). IsSomeAnd (bytes_in slot) (λ content. M content replica)) (sym kept) on_one in
-    subst (λ v. IsSomeAnd (bytes_in (now v (Meta replica.stamp))) (λ content. M content replica)) (sym here) still
+  -- where all was cleared, what stands doesn't go
+  module _ (left : (vol : ℕ) (file : BlockFile) → IsTrue (is_standing (now vol file)) → goes kept (found vol) vol file ≡ false) where
+    pub left_on : (own : ℕ) → kept ≡ Some own → (vol : ℕ) (file : BlockFile) → IsTrue (is_standing (now vol file)) → goes (Some own) (found vol) vol file ≡ false
+    left_on own at vol file there = subst (λ k. goes k (found vol) vol file ≡ false) at (left vol file there)
 
--- ---- the cell
+    pub at_own : (own vol : ℕ) → not (vol == own) ≡ false → vol ≡ own
+    at_own own vol is = elim (eqb_tells vol own) [ inl same ↦ same.1 | inr apart ↦ absurd (false≢true (sym is ∙ ap not apart.0)) ]
 
--- the cell of an entry that an opening made, where its block file has these bytes
-abbrev pub cell_in : List ℕ → ℕ → EntryState → Cell
-cell_in bytes stamp is_final = final (replica_of stamp bytes)
-cell_in bytes stamp (is_written base block_number meta_number) = waiting
-cell_in bytes stamp (in_doubt base) = waiting
-cell_in bytes stamp is_waiting = waiting
-
-abbrev pub cell_of : List ℕ → Option Entry → Cell
-cell_of bytes None = absent
-cell_of bytes (Some entry) = cell_in bytes entry.stamp entry.state
-
-module _ (told : Option (List World)) (id : ℕ) (books : BlockBooks) (bytes : List ℕ) where
-  -- the cell is what is read, or it waits exactly where a block file stands
-  made_none : (files : BlockFiles) → ReadsAs files None → (LeavesBlockFile files → ⊥) → SaysNothing books → MakesCell files (cell_of bytes books.entry)
-  made_none files reads no_file is = record {
-    replica = None;
-    reads = reads;
-    made = record { waits = λ there. absurd (no_file there); absent = λ none. ap (λ (b : BlockBooks). cell_of bytes b.entry) is };
-  }
-
-  made_waiting : (files : BlockFiles) (stamp len : ℕ) (left : List Leftover) → ReadsAs files None → LeavesBlockFile files → books ≡ books_of (Some (entry_of stamp len is_waiting)) left None →
-      MakesCell files (cell_of bytes books.entry)
-  made_waiting files stamp len left reads there is = record {
-    replica = None;
-    reads = reads;
-    made = record { waits = λ some. ap (λ (b : BlockBooks). cell_of bytes b.entry) is; absent = λ none. absurd (none there) };
-  }
-
-  made_final : (files : BlockFiles) (stamp len : ℕ) → ReadsAs files (Some (replica_of stamp bytes)) → books ≡ books_of (Some (entry_of stamp len is_final)) [] None →
-      MakesCell files (cell_of bytes books.entry)
-  made_final files stamp len reads is = record { replica = Some (replica_of stamp bytes); reads = reads; made = ap (λ (b : BlockBooks). cell_of bytes b.entry) is }
-
-  module _ (was : View) where
-    -- nothing was found of a block file
-    none_left : (found : Option FoundFiles) → Partly found was was → has_block found ≡ false → has_writing found ≡ false → LeavesBlockFile (files_in was) → ⊥
-    none_left found partly no_block no_writing there = elim there.1 [
-      | inl writing ↦ false≢true (sym no_writing ∙ partly.writing_is ∙ subst (λ v. is_standing (was v WritingBlock) ≡ true) (partly.on_one there.0 WritingBlock writing) writing)
-      | inr settled ↦
-          let standing = bytes-standing (was there.0 Block) settled in
-          false≢true (sym no_block ∙ partly.block_is ∙ subst (λ v. is_standing (was v Block) ≡ true) (partly.on_one there.0 Block standing) standing)
-    ]
-
-    some_left : (files : FoundFiles) → Partly (Some files) was was → (files.block ≡ true) ⊎ (files.writing ≡ true) → LeavesBlockFile (files_in was)
-    some_left files partly (inl there) =
-        (1, inr (ap (λ s. is_some (bytes_in s)) (held_slot (was 1 Block) (sym partly.block_is ∙ there) (λ number. partly.settled 1 Block number tt))))
-    some_left files partly (inr there) = (1, inl (sym partly.writing_is ∙ there))
-
-    pub made_cell : (found : Option FoundFiles) → Partly found was was → bytes ≡ slot_bytes (was 1 Block) → SaysFound told id found books →
-        MakesCell (files_in was) (cell_of bytes books.entry)
-    made_cell None partly bytes_are says = made_none (files_in was) (reads_partly None was was partly) (none_left None partly refl refl) says
-    made_cell (Some files) partly bytes_are says =
-        let Q : Outcome → Type 0 = λ o. SaysOutcome o told id files books in
-        let R : Outcome → Type 0 = λ o. ReadsAs (files_in was) (read_by o (slot_bytes (was 1 Block))) in
-        let reads = reads_partly (Some files) was was partly in
-        elim (outcome_cases files) [
-          | inl made ↦
-              let said : IsFinalEntry told id made.stamp books = subst Q made.is says in
-              let read : ReadsAs (files_in was) (Some (replica_of made.stamp (slot_bytes (was 1 Block)))) = subst R made.is reads in
-              made_final (files_in was) made.stamp said.len
-              (subst (λ (b : List ℕ). ReadsAs (files_in was) (Some (replica_of made.stamp b))) (sym bytes_are) read) said.is
-          | inr (inl made) ↦
-              let said : IsWaitingEntry told id files books = subst Q made.is says in
-              let read : ReadsAs (files_in was) None = subst R made.is reads in
-              made_waiting (files_in was) said.stamp said.len (kept_files said.stamp said.block_len said.writing_len files) read (some_left files partly made.some) said.is
-          | inr (inr made) ↦
-              let said : SaysNothing books = subst Q made.is says in
-              let read : ReadsAs (files_in was) None = subst R made.is reads in
-              made_none (files_in was) read (none_left (Some files) partly made.no_block made.no_writing) said
-        ]
-
--- ---- what stands
-
-module _ (M : List ℕ → Replica → Type 0) (told : Option (List World)) (id : ℕ) (books : BlockBooks) (bytes : List ℕ) (was now : View) where
-  abbrev StandsHere : BlockBooks → Type 0
-  StandsHere b = BlockStands M now b (cell_of bytes b.entry)
-
-  here : (b : BlockBooks) → books ≡ b → StandsHere b → StandsHere books
-  here b is stands = subst (λ (x : BlockBooks). StandsHere x) (sym is) stands
-
-  module _ (files : FoundFiles) (partly : Partly (Some files) was now) (leaves : (file : BlockFile) → IsTrue (is_standing (now 1 file)) → Left files file)
-      (stamps : (stamp : ℕ) → Contains files.metas.items stamp → IsStamp stamp) (writing_stamps : (stamp : ℕ) → Contains files.writing_metas.items stamp → IsStamp stamp)
-      (bytes_are : bytes ≡ slot_bytes (was 1 Block)) (len_is : (len : ℕ) → files.block ≡ true → IsSizeOf told (block_path id) len → len ≡ length bytes)
-      (matches : (made : MakesFinal files) → M (slot_bytes (was 1 (Meta made.stamp))) (replica_of made.stamp bytes)) where
-    at_one : (vol : ℕ) (file : BlockFile) → IsTrue (is_standing (now vol file)) → (vol ≡ 1) × Left files file
-    at_one vol file there =
-        let vol_is = partly.on_one vol file (was_standing (Some files) was now partly vol file there) in
-        (vol_is, leaves file (subst (λ v. is_standing (now v file) ≡ true) vol_is there))
-
-    named : (made : MakesFinal files) (file : BlockFile) → Left files file → StateNames is_final made.stamp file
-    named made Block is = tt
-    named made (Meta stamp) is = only_stamp files.metas.items made.stamp made.more stamp made.metas_are partly.few is.1
-    named made WritingBlock is = is.0 made.stamp made.is
-    named made (WritingMeta stamp) is = is.0 made.stamp made.is
-    named made TemporaryBlock is = is
-    named made (TemporaryMeta stamp) is = is
-
-    final_here : (made : MakesFinal files) → IsFinalEntry told id made.stamp books → StandsHere books
-    final_here made says =
-        let pair = final_one_pair (Some files) was now partly made.stamp made.more made.block_there made.metas_are in
-        let with_bytes : OnePair now made.stamp bytes (slot_bytes (was 1 (Meta made.stamp))) =
-        subst (λ (b : List ℕ). OnePair now made.stamp b (slot_bytes (was 1 (Meta made.stamp)))) (sym bytes_are) pair in
-        here (books_of (Some (entry_of made.stamp says.len is_final)) [] None) says.is
-        (final_stands M now made.stamp says.len bytes (slot_bytes (was 1 (Meta made.stamp))) with_bytes (matches made)
-        (stamps made.stamp (subst (λ (ms : List ℕ). Contains ms made.stamp) (sym made.metas_are) (0, omega arith, refl)))
-        (len_is says.len made.block_there says.size)
-        (λ vol file there. let at = at_one vol file there in (sym at.0, named made file at.1))
-        (now_settled (Some files) was now partly))
-
-    held : (made : MakesWaiting files) (stamp block_len writing_len : ℕ) (file : BlockFile) → Left files file → IsListed (kept_files stamp block_len writing_len files) 1 file
-    held made stamp block_len writing_len Block is = lists_block stamp block_len writing_len files is
-    held made stamp block_len writing_len (Meta other) is =
-        absurd (none_in other (subst (λ (ms : List ℕ). Contains ms other) (made.lone is.0) is.1))
-    held made stamp block_len writing_len WritingBlock is = lists_writing stamp block_len writing_len files is.1
-    held made stamp block_len writing_len (WritingMeta other) is = lists_meta stamp block_len writing_len files is.1 other is.2
-    held made stamp block_len writing_len TemporaryBlock is = absurd is
-    held made stamp block_len writing_len (TemporaryMeta other) is = absurd is
-
-    waiting_here : (made : MakesWaiting files) → IsWaitingEntry told id files books → StandsHere books
-    waiting_here made says =
-        let kept = kept_files says.stamp says.block_len says.writing_len files in
-        here (books_of (Some (entry_of says.stamp says.len is_waiting)) kept None) says.is
-        (waiting_stands M now says.stamp says.len kept says.greatest.in_range (lone_no_pair (Some files) was now partly made.lone)
-        (λ vol file there.
-        let at = at_one vol file there in
-        subst (λ v. IsListed kept v file) (sym at.0) (held made says.stamp says.block_len says.writing_len file at.1))
-        (kept_fits says.stamp says.block_len says.writing_len files says.len writing_stamps)
-        (now_settled (Some files) was now partly))
-
-    nothing : (made : MakesAbsent files) (file : BlockFile) → Left files file → ⊥
-    nothing made Block is = false≢true (sym made.no_block ∙ is)
-    nothing made (Meta stamp) is = false≢true (sym made.no_block ∙ is.0)
-    nothing made WritingBlock is = false≢true (sym made.no_writing ∙ is.1)
-    nothing made (WritingMeta stamp) is = false≢true (sym made.no_writing ∙ is.1)
-    nothing made TemporaryBlock is = is
-    nothing made (TemporaryMeta stamp) is = is
-
-    pub files_stand : SaysOutcome (outcome_of files) told id files books → StandsHere books
-    files_stand says =
-        let Q : Outcome → Type 0 = λ o. SaysOutcome o told id files books in
-        elim (outcome_cases files) [
-          | inl made ↦ final_here made (subst Q made.is says)
-          | inr (inl made) ↦ waiting_here made (subst Q made.is says)
-          | inr (inr made) ↦
-              let said : SaysNothing books = subst Q made.is says in
-              here (books_of None [] None) said (absent_stands M now (λ vol file there. nothing made file (at_one vol file there).1))
-        ]
-
-  pub none_stands : Partly None was now → ((file : BlockFile) → IsTrue (is_standing (now 1 file)) → ⊥) → SaysNothing books → StandsHere books
-  none_stands partly leaves says =
-      here (books_of None [] None) says (absent_stands M now (λ vol file there.
-      let vol_is = partly.on_one vol file (was_standing None was now partly vol file there) in
-      leaves file (subst (λ v. is_standing (now v file) ≡ true) vol_is there)))
+    pub alone_left : IsMade kept found was → (spot : Spot) (replica : Replica) → IsCopy (files_in now) spot replica → IsAlone (files_in now) spot
+    alone_left (made_none at none) spot replica copy = no_pair_alone now (lone_no_pair kept found was now shown partly none) spot replica copy
+    alone_left (made_copy own stamp at keeps) spot replica copy =
+        let block_here : (s : Spot) → IsSome (bytes_in (now s.vol Block)) → s ≡ own_spot own =
+        λ s has. ap own_spot (at_own own s.vol (left_on own at s.vol Block (bytes-standing (now s.vol Block) has))) in
+        let here : spot ≡ own_spot own = block_here spot (ap is_some copy.block) in
+        let P : Spot → Type 0 = λ s. IsOnlyMeta (files_in now) s stamp in
+        record {
+          one_meta = (stamp, subst P (sym here) (only_here kept found was now shown partly own stamp at keeps));
+          no_block = λ other has. block_here other has ∙ sym here;
+          no_meta = λ other s has. ap own_spot (at_own own other.vol (left_on own at other.vol (Meta s) (bytes-standing (now other.vol (Meta s)) has))) ∙ sym here;
+        }

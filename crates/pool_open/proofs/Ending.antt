@@ -1,15 +1,21 @@
 -- The clauses of an opening, from what its calls gave.
-use Rattle.std.proofs.Common.{◌≡◌, ◌⊎◌, ◌↔◌, ◌<◌, ◌≤◌, inl, inr, ℕ, true, List, [], ◌∷◌, Option, None, Some, All, Contains, length, get_or, refl, ap, sym, ◌∙◌, subst, arith, IsSome}
+use Rattle.std.proofs.Common.{◌≡◌, ◌⊎◌, ◌↔◌, ◌<◌, ◌≤◌, inl, inr, ℕ, Bool, true, false, List, [], ◌∷◌, Option, None, Some, All, Contains, length, get_or, refl, ap, sym, ◌∙◌, subst, arith, IsSome}
+use Rattle.std.specs.Prelude.{◌+◌, ◌==◌, if◌then◌else◌, is_some, option_map}
+use Rattle.std.specs.List.{flat_map}
+use Rattle.std.specs.Ordering.{nat_cmp}
+use Rattle.std.specs.BTreeMap.{get}
+use Rattle.std.specs.declared.vec.Vec.{Vec}
+use Rattle.std.specs.declared.alloc.Global.{Global}
 use Rattle.std.proofs.lemmas.Bool.{false≢true}
-use Rattle.std.proofs.lemmas.List.Elements.{All-contains, All-get_or, Contains-get_or}
+use Rattle.std.proofs.lemmas.List.Elements.{All-contains, All-get_or, All-nil, All-cons, All-append, Contains-get_or}
 use Rattle.disk_model.specs.declared.disks.PoolDisks.{Ghosts}
 use Rattle.disk_model.specs.Files.{Files}
-use Rattle.disk_model.specs.Worlds.{World}
-use Rattle.disk_model.specs.Told.{InEachWorld, PicksOne, CanLeave, Leaves}
+use Rattle.disk_model.specs.Worlds.{World, IsAbsent}
+use Rattle.disk_model.specs.Told.{InEachWorld, PicksOne, StandsWithin, CanLeave, Leaves}
 use Rattle.disk_model.specs.Moments.{Elapses, AddsOnly}
-use Rattle.disk_model.proofs.Laws.{only_one, from_done}
+use Rattle.disk_model.proofs.Laws.{only_one, has_one, from_done}
 use Rattle.disk_model.proofs.GoingOn.{went_call}
-use Rattle.volume_layout.specs.Paths.{IsBlockId, IsStamp, meta_path}
+use Rattle.volume_layout.specs.Paths.{IsBlockId, IsStamp, meta_path, rbw_meta}
 use Rattle.volume_layout.proofs.Reading.{is_stamp-IsStamp}
 use Rattle.map_model.specs.World.{DraftsAside}
 use Rattle.volume_layout.specs.declared.block_file.BlockFile.TheVariants.{Meta}
@@ -18,19 +24,34 @@ use Rattle.map_model.specs.Stands.{BlockBooks}
 use Rattle.map_model.proofs.Aside.{aside_no_draft}
 use Rattle.map_model.proofs.Places.{no_number}
 use Rattle.map_model.proofs.Bridge.{view_slot}
+use Rattle.pool_state.specs.Books.{block_books, book_entry, entry_state}
+use Rattle.pool_state.specs.Stands.{IsVolume}
+use Rattle.replica_map.specs.declared.entry.Entry.{Entry}
+use Rattle.replica_map.specs.declared.entry.Grown.{Grown}
+use Rattle.replica_map.specs.declared.entry.State.{State}
+use Rattle.replica_map.specs.declared.entry.State.TheVariants.{Finalised, Writing, Unsure, Waiting}
+use Rattle.replica_map.specs.Counting.{is_final}
+use Rattle.replica_map.specs.Books.{Books, entry_at, grown_at}
 use Rattle.pool_survey.specs.declared.found.FoundFiles.{FoundFiles}
-use Rattle.pool_survey.specs.declared.surveying.Survey.{Survey}
-use Rattle.pool_survey.specs.Exact.{IsSurveyOf}
-use Rattle.pool_survey.specs.Found.{AreBlocks, AreStamps, found_of, metas_of}
+use Rattle.pool_survey.specs.declared.places.FoundOn.{FoundOn}
+use Rattle.pool_survey.specs.declared.surveying_pool.PoolSurvey.{PoolSurvey}
+use Rattle.pool_survey.specs.Found.{AreStamps, metas_of}
+use Rattle.pool_survey.specs.Places.{found_on, places_of, ArePoolBlocks, IsPoolSurveyOf}
+use Rattle.pool_survey.specs.Regions.{AreFiles}
 use Rattle.pool_survey.specs.Remaining.{Remains}
-use Rattle.pool_open.specs.Clearing.{LeftCleared}
+use Rattle.pool_open.specs.declared.paths.Piece.{Piece}
+use Rattle.pool_open.specs.declared.paths.Piece.TheVariants.{Lesser, Superseded, Orphans}
+use Rattle.pool_open.specs.Plan.{Place, copy_stamp, block_on, metas_on, writing_on, writing_metas_on, whole_copy, bare_block, lone_writing_on, piece_on, pieces_of, names_on, temporary_from, kept_by, kept_in}
+use Rattle.pool_open.specs.Clearing.{IsOnVolumes, AreOnVolumes, LeftCleared}
 use Rattle.pool_open.specs.Looking.{OnlyLooks}
 use Rattle.pool_open.specs.Outcome.{HoldsImage, HasTwoMetas, ReadsAsOne}
-use Rattle.pool_open.proofs.Lists.{found_listed, listed_found}
+use Rattle.pool_open.proofs.Lists.{flat_all, map_all, found_listed, listed_found}
 use Rattle.pool_open.proofs.Looks.{leaves_before}
 use Rattle.pool_open.proofs.Shown.{world_reads_back}
+use Rattle.pool_open.proofs.Placed.{none_in, first_in, later_in, on_there, found_there, places_here, no_places}
+use Rattle.pool_open.proofs.Made.{final_vol, final_volume}
 use Rattle.pool_open.proofs.Opened.{IsTable, plan_of}
-use Rattle.pool_open.proofs.Opens.{IsOpening, cleared_reads_back, surveyed, in_before}
+use Rattle.pool_open.proofs.Opens.{IsOpening, cleared_reads_back, in_before}
 
 -- ---- looking
 
@@ -57,10 +78,10 @@ module _ {D S T R : Type 0} (g : Ghosts D S T R) (old new : D) where
   ]
 
 -- what could be left by each of three runs
-pub joined : {surveyed_past first_past second_past last : ℕ → Files → Type 0} (survey : Survey) (first second : Option (List World)) →
-    AddsOnly surveyed_past first_past (CanLeave first) → AddsOnly first_past second_past (CanLeave first) → AddsOnly second_past last (LeftCleared (plan_of survey) second) →
-    AddsOnly surveyed_past last (λ image. CanLeave first image ⊎ LeftCleared (plan_of survey) second image)
-joined survey first second one two three t image left = elim (three t image left) [
+pub joined : {surveyed_past first_past second_past last : ℕ → Files → Type 0} (kept : ℕ → Option ℕ) (survey : PoolSurvey) (first second : Option (List World)) →
+    AddsOnly surveyed_past first_past (CanLeave first) → AddsOnly first_past second_past (CanLeave first) → AddsOnly second_past last (LeftCleared (plan_of kept survey) second) →
+    AddsOnly surveyed_past last (λ image. CanLeave first image ⊎ LeftCleared (plan_of kept survey) second image)
+joined kept survey first second one two three t image left = elim (three t image left) [
   | inr cleared ↦ inr (inr cleared)
   | inl earlier ↦ elim (two t image earlier) [
     | inr leaves ↦ inr (inl leaves)
@@ -72,35 +93,146 @@ joined survey first second one two three t image left = elim (three t image left
 pub none_told : (P : World → Type 0) → InEachWorld None P
 none_told P world is = (let bad : None ≡ Some is.0 = is.1 in absurd cc)
 
--- what is left while paths are cleared reads as some world did
-pub meanwhile_before : (survey : Survey) (before first second after : Option (List World)) (volumes : ℕ) (books : ℕ → BlockBooks) →
-    IsOpening survey before first second after volumes books → Remains before first → (image : Files) → CanLeave first image ⊎ LeftCleared (plan_of survey) second image →
+-- what is left while places are cleared reads as some world did
+pub meanwhile_before : (kept : ℕ → Option ℕ) (survey : PoolSurvey) (before first second after : Option (List World)) (volumes : ℕ) (books : ℕ → BlockBooks) →
+    IsOpening kept survey before first second after volumes books → Remains before first → (image : Files) → CanLeave first image ⊎ LeftCleared (plan_of kept survey) second image →
     ReadsAsOne before image
-meanwhile_before survey before first second after volumes books opening remains image (inl leaves) =
+meanwhile_before kept survey before first second after volumes books opening remains image (inl leaves) =
     let is = remains leaves.0 leaves.1 in
     (leaves.0, is, world_reads_back leaves.0 image (opening.aside leaves.0 is) leaves.2)
-meanwhile_before survey before first second after volumes books opening remains image (inr left) =
+meanwhile_before kept survey before first second after volumes books opening remains image (inr left) =
     let was = left.1.0 in
     let is = left.1.1 in (
       was,
-      in_before survey before first second after volumes books opening was is,
-      cleared_reads_back survey opening.table was (surveyed survey before first second after volumes books opening was is) left.0 image left.1.2 left.2,
+      in_before kept survey before first second after volumes books opening was is,
+      cleared_reads_back kept survey before first second after volumes books opening was is left.0 image left.1.2 left.2,
     )
 
 -- ---- the table
 
-few_by : (found : Option FoundFiles) → ((files : FoundFiles) → found ≡ Some files → length files.metas.items ≤ 1) → length (metas_of found) ≤ 1
-few_by None few = omega arith
-few_by (Some files) few = few files refl
+few_by : (places : List FoundOn) → All (λ (on : FoundOn). length on.files.metas.items ≤ 1) places → (vol : ℕ) (o : Option FoundFiles) → found_on places vol ≡ o → length (metas_of o) ≤ 1
+few_by places few vol None is = omega arith
+few_by places few vol (Some files) is =
+    let on = on_there places vol files is in
+    subst (λ (f : FoundFiles). length f.metas.items ≤ 1) on.3 (All-contains (λ (on : FoundOn). length on.files.metas.items ≤ 1) places on.0 few on.1)
 
-pub table_of : (survey : Survey) → AreBlocks survey.blocks → All (λ (entry : ℕ × FoundFiles). found_of survey.blocks entry.0 ≡ Some entry.1) survey.blocks.entries →
-    All (λ (entry : ℕ × FoundFiles). length entry.1.metas.items ≤ 1) survey.blocks.entries → IsTable survey
-table_of survey blocks listed few = record {
-  blocks = blocks;
-  few = λ id. few_by (found_of survey.blocks id) (λ files is.
-      All-contains (λ (entry : ℕ × FoundFiles). length entry.1.metas.items ≤ 1) survey.blocks.entries (id, files) few (found_listed id survey.blocks.entries files is));
-  listed = λ id files has. listed_found survey.blocks listed id files has;
-}
+module _ (volumes : ℕ) (survey : PoolSurvey) (blocks : ArePoolBlocks volumes survey.blocks)
+    (listed : All (λ (entry : ℕ × Vec FoundOn Global). get nat_cmp survey.blocks entry.0 ≡ Some entry.1) survey.blocks.entries) where
+  few_at : All (λ (entry : ℕ × Vec FoundOn Global). All (λ (on : FoundOn). length on.files.metas.items ≤ 1) entry.1.items) survey.blocks.entries →
+      (id : ℕ) (o : Option (Vec FoundOn Global)) → get nat_cmp survey.blocks id ≡ o → All (λ (on : FoundOn). length on.files.metas.items ≤ 1) (places_of survey.blocks id)
+  few_at few id None is = subst (λ (places : List FoundOn). All (λ (on : FoundOn). length on.files.metas.items ≤ 1) places) (sym (no_places survey.blocks id is))
+      (All-nil (λ (on : FoundOn). length on.files.metas.items ≤ 1))
+  few_at few id (Some found) is =
+      subst (λ (places : List FoundOn). All (λ (on : FoundOn). length on.files.metas.items ≤ 1) places) (sym (places_here survey.blocks id found is))
+      (All-contains (λ (entry : ℕ × Vec FoundOn Global). All (λ (on : FoundOn). length on.files.metas.items ≤ 1) entry.1.items) survey.blocks.entries (id, found) few
+      (found_listed id survey.blocks.entries found is))
+
+  pub table_of : All (λ (entry : ℕ × Vec FoundOn Global). All (λ (on : FoundOn). length on.files.metas.items ≤ 1) entry.1.items) survey.blocks.entries → IsTable volumes survey
+  table_of few = record {
+    blocks = blocks;
+    few = λ id vol. few_by (places_of survey.blocks id) (few_at few id (get nat_cmp survey.blocks id) refl) vol (found_on (places_of survey.blocks id) vol) refl;
+    listed = λ id found has. listed_found survey.blocks listed id found has;
+  }
+
+  found_of_entry : (entry : ℕ × Vec FoundOn Global) → Contains survey.blocks.entries entry → get nat_cmp survey.blocks entry.0 ≡ Some entry.1
+  found_of_entry entry has = All-contains (λ (entry : ℕ × Vec FoundOn Global). get nat_cmp survey.blocks entry.0 ≡ Some entry.1) survey.blocks.entries entry listed has
+
+  -- its entries are those of blocks
+  pub ids_of : All (λ (entry : ℕ × Vec FoundOn Global). IsBlockId entry.0) survey.blocks.entries
+  ids_of = each_of survey.blocks.entries (λ entry has. blocks.ids entry.0 entry.1 (found_of_entry entry has))
+    where
+      each_of : (es : List (ℕ × Vec FoundOn Global)) → ((entry : ℕ × Vec FoundOn Global) → Contains es entry → IsBlockId entry.0) → All (λ (entry : ℕ × Vec FoundOn Global). IsBlockId entry.0) es
+      each_of [] each = All-nil (λ (entry : ℕ × Vec FoundOn Global). IsBlockId entry.0)
+      each_of (e ∷ es) each = All-cons (λ (entry : ℕ × Vec FoundOn Global). IsBlockId entry.0) e es (each e (first_in e es))
+          (each_of es (λ entry has. each entry (later_in e es entry has)))
+
+  -- ---- the plan is on the volumes
+
+  abbrev OnVolumes : List Place → Type 0
+  OnVolumes places = All (IsOnVolumes volumes) places
+
+  if_on : (b : Bool) (xs : List Place) → OnVolumes xs → OnVolumes (if b then xs else [])
+  if_on true xs all = all
+  if_on false xs all = All-nil (IsOnVolumes volumes)
+
+  unless_on : (b : Bool) (xs : List Place) → OnVolumes xs → OnVolumes (if b then [] else xs)
+  unless_on true xs all = All-nil (IsOnVolumes volumes)
+  unless_on false xs all = all
+
+  module _ (id : ℕ) (on : FoundOn) (there : IsVolume volumes on.vol) where
+    block_there : OnVolumes (block_on id on)
+    block_there = if_on on.files.block _ (All-cons (IsOnVolumes volumes) _ [] there (All-nil (IsOnVolumes volumes)))
+
+    metas_there : OnVolumes (metas_on id on)
+    metas_there = map_all (IsOnVolumes volumes) (λ (stamp : ℕ). (on.vol, meta_path id stamp)) on.files.metas.items (λ stamp has. there)
+
+    writing_there : OnVolumes (writing_on id on)
+    writing_there = if_on on.files.writing _ (All-cons (IsOnVolumes volumes) _ [] there (All-nil (IsOnVolumes volumes)))
+
+    writing_metas_there : OnVolumes (writing_metas_on id on)
+    writing_metas_there = map_all (IsOnVolumes volumes) (λ (stamp : ℕ). (on.vol, rbw_meta id stamp)) on.files.writing_metas.items (λ stamp has. there)
+
+    whole_there : (stamp : Option ℕ) → OnVolumes (whole_copy stamp id on)
+    whole_there None = All-nil (IsOnVolumes volumes)
+    whole_there (Some stamp) = All-append (IsOnVolumes volumes) (block_on id on) (metas_on id on) block_there metas_there
+
+    bare_there : (stamp : Option ℕ) → OnVolumes (bare_block stamp id on)
+    bare_there None = block_there
+    bare_there (Some stamp) = All-nil (IsOnVolumes volumes)
+
+    lone_there : (kept : Option ℕ) → OnVolumes (lone_writing_on kept id on)
+    lone_there None = unless_on on.files.writing (writing_metas_on id on) writing_metas_there
+    lone_there (Some own) = All-nil (IsOnVolumes volumes)
+
+    piece_there : (piece : Piece) (kept : Option ℕ) → OnVolumes (piece_on piece kept id on)
+    piece_there Lesser None = All-nil (IsOnVolumes volumes)
+    piece_there Lesser (Some own) = unless_on (on.vol == own) (whole_copy (copy_stamp on.files) id on) (whole_there (copy_stamp on.files))
+    piece_there Superseded None = All-nil (IsOnVolumes volumes)
+    piece_there Superseded (Some own) = All-append (IsOnVolumes volumes) (writing_on id on) _ writing_there
+        (All-append (IsOnVolumes volumes) (writing_metas_on id on) (bare_block (copy_stamp on.files) id on) writing_metas_there (bare_there (copy_stamp on.files)))
+    piece_there Orphans kept = All-append (IsOnVolumes volumes) (if on.files.block then [] else metas_on id on) (lone_writing_on kept id on)
+        (unless_on on.files.block (metas_on id on) metas_there) (lone_there kept)
+
+  names_there : (from : ℕ) (temporary : List (List (List ℕ))) → 1 ≤ from → from + length temporary ≤ volumes + 1 → OnVolumes (temporary_from from temporary)
+  names_there from [] low high = All-nil (IsOnVolumes volumes)
+  names_there from (names ∷ more) low high =
+      let fits : from ≤ volumes = omega (arith, high) in
+      All-append (IsOnVolumes volumes) (names_on from names) (temporary_from (from + 1) more)
+      (map_all (IsOnVolumes volumes) _ names (λ name has. (low, fits)))
+      (names_there (from + 1) more (omega (arith, low)) (omega (arith, high)))
+
+  pieces_there : (kept : ℕ → Option ℕ) (piece : Piece) → OnVolumes (flat_map (pieces_of piece kept) survey.blocks.entries)
+  pieces_there kept piece = flat_all (IsOnVolumes volumes) (pieces_of piece kept) survey.blocks.entries (λ entry has.
+      let is = found_of_entry entry has in
+      flat_all (IsOnVolumes volumes) (piece_on piece (kept entry.0) entry.0) entry.1.items (λ on there.
+      piece_there entry.0 on
+      (All-contains (λ (on : FoundOn). IsVolume volumes on.vol) entry.1.items on
+      (subst (λ (places : List FoundOn). All (λ (on : FoundOn). IsVolume volumes on.vol) places) (places_here survey.blocks entry.0 entry.1 is) (blocks.places entry.0).on_volumes) there)
+      piece (kept entry.0)))
+
+  pub plan_on_volumes : (kept : ℕ → Option ℕ) → length survey.temporary.items ≡ volumes → AreOnVolumes volumes (plan_of kept survey)
+  plan_on_volumes kept counted = All-append (IsOnVolumes volumes) (temporary_from 1 survey.temporary.items) _
+      (names_there 1 survey.temporary.items (omega arith) (omega (arith, counted)))
+      (All-append (IsOnVolumes volumes) (flat_map (pieces_of Lesser kept) survey.blocks.entries) _ (pieces_there kept Lesser)
+      (All-append (IsOnVolumes volumes) (flat_map (pieces_of Superseded kept) survey.blocks.entries) (flat_map (pieces_of Orphans kept) survey.blocks.entries)
+      (pieces_there kept Superseded) (pieces_there kept Orphans)))
+
+-- ---- the volume that is kept
+
+kept_state : (grown : Option Grown) (state : State) (vol : ℕ) → (if is_final state then Some vol else None) ≡ final_vol (entry_state grown state) vol
+kept_state grown Finalised vol = refl
+kept_state grown Writing vol = refl
+kept_state grown Unsure vol = refl
+kept_state grown Waiting vol = refl
+
+kept_entry : (books : Books) (id : ℕ) (entry : Option Entry) → entry_at books id ≡ entry → kept_in books id ≡ final_volume (block_books books id).entry
+kept_entry books id None is = ap kept_by is ∙ sym (ap (λ (e : Option Entry). final_volume (option_map (book_entry (grown_at books id)) e)) is)
+kept_entry books id (Some entry) is = ap kept_by is ∙ kept_state (grown_at books id) entry.state entry.vol
+    ∙ sym (ap (λ (e : Option Entry). final_volume (option_map (book_entry (grown_at books id)) e)) is)
+
+-- by the books it is that of the entry of a replica
+pub kept_volume : (books : Books) (id : ℕ) → kept_in books id ≡ final_volume (block_books books id).entry
+kept_volume books id = kept_entry books id (entry_at books id) refl
 
 -- ---- two metas of one block
 
@@ -112,36 +244,36 @@ some_standing : (content : Option (List ℕ)) → IsSome content → is_standing
 some_standing None some = absurd (false≢true some)
 some_standing (Some bytes) some = refl
 
-module _ (world : World) (image : Files) (survey : Survey) (surveyed : IsSurveyOf world 1 survey) (aside : DraftsAside world) (leaves : Leaves world image)
-    (blocks : AreBlocks survey.blocks) where
-  module _ (id : ℕ) (valid : IsBlockId id) where
+module _ (volumes : ℕ) (world : World) (image : Files) (survey : PoolSurvey) (surveyed : IsPoolSurveyOf world volumes survey) (aside : DraftsAside world) (leaves : Leaves world image)
+    (blocks : ArePoolBlocks volumes survey.blocks) where
+  module _ (id : ℕ) (valid : IsBlockId id) (vol : ℕ) (on_volume : IsVolume volumes vol) where
     -- a finalised meta is settled
-    meta_slot : (stamp : ℕ) → IsStamp stamp → view_of world id 1 (Meta stamp) ≡ slot_of None (image 1 (meta_path id stamp))
+    meta_slot : (stamp : ℕ) → IsStamp stamp → view_of world id vol (Meta stamp) ≡ slot_of None (image vol (meta_path id stamp))
     meta_slot stamp stamped =
-        let none = aside_no_draft id 1 (Meta stamp) world refl aside in
-        view_slot world id 1 (Meta stamp) (is_stamp-IsStamp stamp stamped)
-        ∙ ap (λ d. slot_of d (world.settled 1 (meta_path id stamp))) (no_number world 1 (meta_path id stamp) none)
-        ∙ ap (slot_of None) (sym (leaves.settled 1 (meta_path id stamp) none))
+        let none = aside_no_draft id vol (Meta stamp) world refl aside in
+        view_slot world id vol (Meta stamp) (is_stamp-IsStamp stamp stamped)
+        ∙ ap (λ d. slot_of d (world.settled vol (meta_path id stamp))) (no_number world vol (meta_path id stamp) none)
+        ∙ ap (slot_of None) (sym (leaves.settled vol (meta_path id stamp) none))
 
     -- a meta that was found stands in the image
-    stands_in : (stamp : ℕ) → IsStamp stamp → Contains (metas_of (found_of survey.blocks id)) stamp → IsSome (image 1 (meta_path id stamp))
+    stands_in : (stamp : ℕ) → IsStamp stamp → Contains (metas_of (found_on (places_of survey.blocks id) vol)) stamp → IsSome (image vol (meta_path id stamp))
     stands_in stamp stamped has =
-        let there = ((surveyed.blocks id valid).metas stamp).0 has in
-        standing_some (image 1 (meta_path id stamp)) (sym (ap is_standing (meta_slot stamp stamped)) ∙ there)
+        let there = ((surveyed.blocks id valid vol on_volume.0 on_volume.1).metas stamp).0 has in
+        standing_some (image vol (meta_path id stamp)) (sym (ap is_standing (meta_slot stamp stamped)) ∙ there)
 
-    found_in : (stamp : ℕ) → IsStamp stamp → IsSome (image 1 (meta_path id stamp)) → Contains (metas_of (found_of survey.blocks id)) stamp
+    found_in : (stamp : ℕ) → IsStamp stamp → IsSome (image vol (meta_path id stamp)) → Contains (metas_of (found_on (places_of survey.blocks id) vol)) stamp
     found_in stamp stamped some =
-        ((surveyed.blocks id valid).metas stamp).1
-        (ap is_standing (meta_slot stamp stamped) ∙ some_standing (image 1 (meta_path id stamp)) some)
+        ((surveyed.blocks id valid vol on_volume.0 on_volume.1).metas stamp).1
+        (ap is_standing (meta_slot stamp stamped) ∙ some_standing (image vol (meta_path id stamp)) some)
 
-    two_of : (stamps : List ℕ) → metas_of (found_of survey.blocks id) ≡ stamps → 1 < length stamps → HasTwoMetas image
-    two_of stamps are long =
-        let ok : AreStamps stamps = subst (λ (s : List ℕ). AreStamps s) are (blocks.metas id) in
+    two_of : (stamps : List ℕ) → AreStamps stamps → metas_of (found_on (places_of survey.blocks id) vol) ≡ stamps → 1 < length stamps → HasTwoMetas image
+    two_of stamps ok are long =
         let first_stamp = get_or stamps 0 0 in
         let second_stamp = get_or stamps 1 0 in
         let first_ok : IsStamp first_stamp = All-get_or IsStamp stamps 0 0 (omega (arith, long)) ok.in_range in
         let second_ok : IsStamp second_stamp = All-get_or IsStamp stamps 1 0 long ok.in_range in
         record {
+          vol = vol;
           id = id;
           stamp = first_stamp;
           other = second_stamp;
@@ -152,30 +284,45 @@ module _ (world : World) (image : Files) (survey : Survey) (surveyed : IsSurveyO
           other_stands = stands_in second_stamp second_ok (subst (λ (s : List ℕ). Contains s second_stamp) (sym are) (Contains-get_or stamps 1 0 long));
         }
 
-  pub two_metas : (id : ℕ) → (files : FoundFiles) × (found_of survey.blocks id ≡ Some files) × (1 < length files.metas.items) → HasTwoMetas image
-  two_metas id some = two_of id (blocks.ids id some.0 some.1) some.0.metas.items (ap metas_of some.1) some.2
+  id_by : (id : ℕ) (o : Option (Vec FoundOn Global)) → get nat_cmp survey.blocks id ≡ o → (on : FoundOn) → Contains (places_of survey.blocks id) on → IsBlockId id
+  id_by id None is on has = absurd (none_in on (subst (λ (places : List FoundOn). Contains places on) (no_places survey.blocks id is) has))
+  id_by id (Some found) is on has = blocks.ids id found is
+
+  pub two_metas : (id : ℕ) → (on : FoundOn) × Contains (places_of survey.blocks id) on × (1 < length on.files.metas.items) → HasTwoMetas image
+  two_metas id some =
+      let on : FoundOn = some.0 in
+      let are = blocks.places id in
+      two_of id (id_by id (get nat_cmp survey.blocks id) refl on some.1) on.vol (All-contains (λ (on : FoundOn). IsVolume volumes on.vol) (places_of survey.blocks id) on are.on_volumes some.1)
+      on.files.metas.items
+      (All-contains (λ (on : FoundOn). AreFiles (Some on.files)) (places_of survey.blocks id) on are.files some.1).metas
+      (ap metas_of (found_there (places_of survey.blocks id) are.rise on some.1)) some.2
 
   one_of : (stamps : List ℕ) (a b : ℕ) → length stamps ≤ 1 → Contains stamps a → Contains stamps b → a ≡ b
   one_of [] a b few has_a has_b = absurd (omega (arith, has_a.1))
   one_of (stamp ∷ []) a b few has_a has_b = sym (only_one stamp a has_a) ∙ only_one stamp b has_b
   one_of (stamp ∷ next ∷ more) a b few has_a has_b = absurd (omega (arith, few))
 
-  pub not_two_metas : ((id : ℕ) → length (metas_of (found_of survey.blocks id)) ≤ 1) → HasTwoMetas image → ⊥
-  not_two_metas few two = two.apart (one_of (metas_of (found_of survey.blocks two.id)) two.stamp two.other (few two.id)
-      (found_in two.id two.valid two.stamp two.in_range.0 two.stands) (found_in two.id two.valid two.other two.in_range.1 two.other_stands))
+  pub not_two_metas : ((id vol : ℕ) → length (metas_of (found_on (places_of survey.blocks id) vol)) ≤ 1) → (two : HasTwoMetas image) → IsVolume volumes two.vol → ⊥
+  not_two_metas few two there = two.apart (one_of (metas_of (found_on (places_of survey.blocks two.id) two.vol)) two.stamp two.other (few two.id two.vol)
+      (found_in two.id two.valid two.vol there two.stamp two.in_range.0 two.stands) (found_in two.id two.valid two.vol there two.other two.in_range.1 two.other_stands))
 
 -- every image that the disks can leave then has them
-pub left_two_metas : (survey : Survey) (told first : Option (List World)) → PicksOne (λ world. IsSurveyOf world 1 survey) (λ w. w) told first → InEachWorld told DraftsAside → AreBlocks survey.blocks →
-    (id : ℕ) → (files : FoundFiles) × (found_of survey.blocks id ≡ Some files) × (1 < length files.metas.items) → (image : Files) → CanLeave first image → HasTwoMetas image
-left_two_metas survey told first call aside blocks id some image leaves =
+pub left_two_metas : (volumes : ℕ) (survey : PoolSurvey) (told first : Option (List World)) → PicksOne (λ world. IsPoolSurveyOf world volumes survey) (λ w. w) told first →
+    InEachWorld told DraftsAside → ArePoolBlocks volumes survey.blocks →
+    (id : ℕ) → (on : FoundOn) × Contains (places_of survey.blocks id) on × (1 < length on.files.metas.items) → (image : Files) → CanLeave first image → HasTwoMetas image
+left_two_metas volumes survey told first call aside blocks id some image leaves =
     let from = from_done call leaves.0 leaves.1 in
-    two_metas leaves.0 image survey (subst (λ w. IsSurveyOf w 1 survey) (sym from.3) from.2) (subst DraftsAside (sym from.3) (aside from.0 from.1)) leaves.2 blocks id some
+    two_metas volumes leaves.0 image survey (subst (λ w. IsPoolSurveyOf w volumes survey) (sym from.3) from.2) (subst DraftsAside (sym from.3) (aside from.0 from.1)) leaves.2 blocks id some
 
--- where one meta of each block was found, the one image that was told has no two
-pub told_no_two_metas : (image : Files) (survey : Survey) (told first : Option (List World)) → HoldsImage told image →
-    PicksOne (λ world. IsSurveyOf world 1 survey) (λ w. w) told first → AreBlocks survey.blocks → ((id : ℕ) → length (metas_of (found_of survey.blocks id)) ≤ 1) → HasTwoMetas image → ⊥
-told_no_two_metas image survey told first holds call blocks few two =
+stands_plain : (world : World) (vol : ℕ) (path : List ℕ) → IsSome (world.settled vol path) → IsAbsent world vol path → ⊥
+stands_plain world vol path some absent = false≢true (sym (ap is_some absent.file) ∙ some)
+
+-- where one meta of each block was found on each volume, the one image that was told has no two
+pub told_no_two_metas : (volumes : ℕ) (image : Files) (survey : PoolSurvey) (told first : Option (List World)) → HoldsImage told image → StandsWithin volumes told →
+    PicksOne (λ world. IsPoolSurveyOf world volumes survey) (λ w. w) told first → IsTable volumes survey → HasTwoMetas image → ⊥
+told_no_two_metas volumes image survey told first holds within call table two =
     let plain : World = record { settled = image; drafts = [] } in
     let picked = call.picked (plain ∷ []) holds in
-    not_two_metas plain image survey (subst (λ w. IsSurveyOf w 1 survey) (sym (only_one plain picked.0 picked.1)) picked.2) (λ vol path aside. refl)
-    (record { drafts = λ vol path there. absurd (false≢true there); settled = λ vol path none. refl }) blocks few two
+    let there : IsVolume volumes two.vol = within plain (plain ∷ [], holds, has_one plain) two.vol (meta_path two.id two.stamp) (stands_plain plain two.vol (meta_path two.id two.stamp) two.stands) in
+    not_two_metas volumes plain image survey (subst (λ w. IsPoolSurveyOf w volumes survey) (sym (only_one plain picked.0 picked.1)) picked.2) (λ vol path aside. refl)
+    (record { drafts = λ vol path there. absurd (false≢true there); settled = λ vol path none. refl }) table.blocks table.few two there

@@ -1,10 +1,17 @@
 pub mod Lists
 pub mod Looks
 pub mod Removals
+pub mod Temporary
+pub mod Copies
+pub mod Held
 pub mod Slots
+pub mod Placed
 pub mod Blocks
+pub mod Made
 pub mod Adding
 pub mod Rows
+pub mod Numbers
+pub mod Drawing
 pub mod Greatest
 pub mod Planned
 pub mod Shown

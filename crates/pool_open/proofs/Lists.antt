@@ -1,6 +1,6 @@
 -- Lists that grow by one element in a loop, and the entries of a map that were passed.
-use Rattle.std.proofs.Common.{◌≡◌, ◌≢◌, ◌⊎◌, ◌<◌, ◌+◌, inl, inr, ℕ, true, false, cond, List, [], ◌∷◌, ◌++◌, None, Some, map, take, get_or, length, refl, ap, sym, ◌∙◌, subst, append_assoc, arith, All, Contains}
-use Rattle.std.specs.Prelude.{slice_get, string_bytes}
+use Rattle.std.proofs.Common.{◌≡◌, ◌≢◌, ◌⊎◌, ◌<◌, ◌≤◌, ◌+◌, inl, inr, ℕ, true, false, cond, List, [], ◌∷◌, ◌++◌, None, Some, map, take, get_or, length, refl, ap, sym, ◌∙◌, subst, append_assoc, arith, All, Contains}
+use Rattle.std.specs.Prelude.{slice_get}
 use Rattle.std.specs.List.{flat_map, AllByRecursion}
 use Rattle.std.specs.List.Sorted.{IsStrictlySortedBy}
 use Rattle.std.specs.Ordering.{nat_cmp, is_eq, MatchOrdering}
@@ -8,10 +8,9 @@ use Rattle.std.specs.declared.cmp.Ordering.{Ordering}
 use Rattle.std.specs.declared.cmp.Ordering.TheVariants.{Less, Equal, Greater}
 use Rattle.std.specs.Map.{lookup, keys_of}
 use Rattle.std.specs.BTreeMap.{BTreeMap, is_at, get}
-use Rattle.std.specs.declared.string.String.{String}
 use Rattle.std.proofs.lemmas.Cmp.{ranked}
-use Rattle.std.proofs.lemmas.List.{map_more, get_or-map}
-use Rattle.std.proofs.lemmas.List.Elements.{Contains-append_left, Contains-append_right, Contains-append_cases, All-append, All-nil, All-cons, All-contains}
+use Rattle.std.proofs.lemmas.List.{map_more, take_more, take_all}
+use Rattle.std.proofs.lemmas.List.Elements.{Contains-append_left, Contains-append_right, Contains-append_cases, Contains-get_or, All-append, All-nil, All-cons, All-push, All-contains}
 use Rattle.std.proofs.lemmas.Option.{get_or_from_slice_get, same_Some}
 use Rattle.disk_model.proofs.Laws.{has_one, only_one}
 
@@ -33,17 +32,31 @@ flat_more f all so_far new x left rest is was now =
     ∙ sym (ap (λ l. so_far ++ flat_map f l) is)
     ∙ was
 
+-- the first of a list, and the next one
+pub take_put : {X : Type 0} (xs : List X) (i : ℕ) (x : X) → i < length xs → x ≡ get_or xs i x → take (i + 1) xs ≡ take i xs ++ x ∷ []
+take_put xs i x below is = take_more xs i x below ∙ ap (λ y. take i xs ++ y ∷ []) (sym is)
+
+-- one more has a property
+pub all_put : {X : Type 0} (P : X → Type 0) (xs : List X) (i : ℕ) (x : X) → i < length xs → x ≡ get_or xs i x → All P (take i xs) → P x → All P (take (i + 1) xs)
+all_put P xs i x below is all here = subst (λ l. All P l) (sym (take_put xs i x below is)) (All-push P (take i xs) x all here)
+
+pub all_taken : {X : Type 0} (P : X → Type 0) (xs : List X) (i : ℕ) → length xs ≤ i → All P (take i xs) → All P xs
+all_taken P xs i past all = subst (λ l. All P l) (take_all i xs past) all
+
+-- the one that is read is among them
+pub has_index : {X : Type 0} (xs : List X) (i : ℕ) (x : X) → i < length xs → x ≡ get_or xs i x → Contains xs x
+has_index xs i x below is = subst (λ y. Contains xs y) (sym is) (Contains-get_or xs i x below)
+
+pub nothing_more : {X : Type 0} (xs : List X) → xs ++ [] ≡ xs
+nothing_more [] = refl
+nothing_more (x ∷ xs) = ap (λ l. x ∷ l) (nothing_more xs)
+
 -- one more was passed
 pub passed_more : {X : Type 0} (all passed left rest : List X) (x : X) → left ≡ x ∷ rest → passed ++ left ≡ all → (passed ++ x ∷ []) ++ rest ≡ all
 passed_more all passed left rest x is split = append_assoc passed (x ∷ []) rest ∙ sym (ap (λ l. passed ++ l) is) ∙ split
 
 pub passed_all : {X : Type 0} (all passed left : List X) → left ≡ [] → passed ++ left ≡ all → passed ++ [] ≡ all
 passed_all all passed left is split = sym (ap (λ l. passed ++ l) is) ∙ split
-
--- a text of a list, among the texts
-pub text_at : {A : Type 0} (paths : List (String A)) (i : ℕ) (text : String A) → i < length paths → text ≡ get_or paths i text →
-    get_or (map string_bytes paths) i [] ≡ string_bytes text
-text_at paths i text below is = get_or-map string_bytes paths i text [] below ∙ ap string_bytes (sym is)
 
 -- ---- pieces of a list
 

@@ -1,33 +1,43 @@
--- The pool stands when all was cleared.
-use Rattle.std.proofs.Common.{◌≡◌, ◌⊎◌, ◌≤◌, inl, inr, ℕ, Bool, true, false, List, Option, None, Some, All, Contains, length, refl, ap, sym, ◌∙◌, subst, arith, IsTrue}
+-- A world that was surveyed, and what an opening leaves of its blocks.
+use Rattle.std.proofs.Common.{◌≡◌, ◌⊎◌, ◌≤◌, ◌-◌, inl, inr, ℕ, Bool, true, false, List, [], Option, Some, None, Contains, length, get_or, refl, ap, sym, ◌∙◌, subst, IsTrue}
 use Rattle.std.specs.Prelude.{codes}
+use Rattle.std.specs.Ordering.{nat_cmp}
+use Rattle.std.specs.BTreeMap.{get}
+use Rattle.std.specs.declared.vec.Vec.{Vec}
+use Rattle.std.specs.declared.alloc.Global.{Global}
 use Rattle.std.proofs.lemmas.Bool.{false≢true, cases_Bool}
 use Rattle.std.proofs.lemmas.List.Elements.{All-contains}
+use Rattle.std.proofs.lemmas.Option.{none-some}
 use Rattle.disk_model.specs.Files.{path_in}
 use Rattle.disk_model.specs.Worlds.{World, IsListing}
-use Rattle.volume_layout.specs.Paths.{IsBlockId, IsStamp, is_stamp, block_path, meta_path}
+use Rattle.disk_model.specs.Told.{IsWorldOf}
+use Rattle.volume_layout.specs.Paths.{IsBlockId, IsStamp, block_path}
 use Rattle.map_model.specs.World.{DraftsAside}
-use Rattle.map_model.specs.Cells.{Replica}
 use Rattle.volume_layout.specs.declared.block_file.BlockFile.{BlockFile}
 use Rattle.volume_layout.specs.declared.block_file.BlockFile.TheVariants.{Block, Meta, WritingBlock, WritingMeta, TemporaryBlock, TemporaryMeta}
 use Rattle.volume_layout.specs.BlockFiles.{path_of, dir_of, name_of, is_file, is_aside_file}
-use Rattle.map_model.specs.Slots.{Slot, empty, drafted, is_standing, slot_at, view_of}
-use Rattle.map_model.specs.Stands.{IsFinalised, BlockBooks, BlockStands}
-use Rattle.map_model.proofs.Bridge.{view_slot}
-use Rattle.map_model.proofs.Aside.{aside_not_drafted}
+use Rattle.map_model.specs.Slots.{Slot, empty, holds, drafted, is_standing, slot_of, slot_at, view_of}
+use Rattle.map_model.specs.Stands.{IsFinalised}
+use Rattle.map_model.proofs.Bridge.{view_slot, view_absent}
+use Rattle.map_model.proofs.Places.{no_number}
+use Rattle.map_model.proofs.Aside.{aside_not_drafted, aside_no_draft}
 use Rattle.map_model.proofs.Directories.{path_in_own_dir, file_listed}
+use Rattle.pool_state.specs.Stands.{IsVolume}
 use Rattle.pool_survey.specs.declared.found.FoundFiles.{FoundFiles}
-use Rattle.pool_survey.specs.declared.surveying.Survey.{Survey}
-use Rattle.pool_survey.specs.Exact.{IsExact, IsSurveyOf}
-use Rattle.pool_survey.specs.Found.{AreBlocks, found_of, has_block, metas_of, has_writing, writing_metas_of}
-use Rattle.pool_open.specs.declared.outcome.Outcome.TheVariants.{Final}
-use Rattle.pool_open.specs.Plan.{outcome_of, cleared_paths}
-use Rattle.pool_open.specs.Found.{IsSizeOf, SaysFound}
+use Rattle.pool_survey.specs.declared.places.FoundOn.{FoundOn}
+use Rattle.pool_survey.specs.declared.surveying_pool.PoolSurvey.{PoolSurvey}
+use Rattle.pool_survey.specs.Found.{has_block, metas_of}
+use Rattle.pool_survey.specs.Regions.{AreFiles}
+use Rattle.pool_survey.specs.Directories.{is_looked_for}
+use Rattle.pool_survey.specs.Exact.{IsExact}
+use Rattle.pool_survey.specs.Places.{found_on, places_of, ArePoolBlocks, IsPoolSurveyOf}
+use Rattle.pool_open.specs.Plan.{Place, copy_stamp, cleared_places}
+use Rattle.pool_open.specs.Found.{IsSizeOf}
 use Rattle.pool_open.specs.Clearing.{Clears, AreClear}
-use Rattle.pool_open.proofs.Slots.{replica_of}
 use Rattle.pool_open.proofs.Lists.{found_listed}
-use Rattle.pool_open.proofs.Planned.{Spares, spared, clears_temporary, clears_meta, clears_writing, clears_writing_meta, clears_lone_meta}
-use Rattle.pool_open.proofs.Blocks.{MakesFinal, Partly, Left, slot_bytes, cell_of, files_stand, none_stands, was_standing}
+use Rattle.pool_open.proofs.Placed.{on_there, found_there, places_here, no_places}
+use Rattle.pool_open.proofs.Planned.{IsFound, found_some, goes, IsListedTable, goes_only, clears_temporary, clears_going}
+use Rattle.pool_open.proofs.Blocks.{slot_bytes, IsShown, Partly, len_on, was_standing}
 
 -- what isn't a file doesn't stand
 pub no_file : (world : World) (id vol : ℕ) (f : BlockFile) → is_file f ≡ false → view_of world id vol f ≡ empty
@@ -45,169 +55,171 @@ finalised_apart (WritingMeta stamp) is = absurd is
 finalised_apart TemporaryBlock is = absurd is
 finalised_apart (TemporaryMeta stamp) is = absurd is
 
--- the table of a survey with at most one meta a block
-pub record IsTable (survey : Survey) : Type 0 where
-  pub blocks : AreBlocks survey.blocks
-  pub few : (id : ℕ) → length (metas_of (found_of survey.blocks id)) ≤ 1
-  pub listed : (id : ℕ) (files : FoundFiles) → Contains survey.blocks.entries (id, files) → found_of survey.blocks id ≡ Some files
+-- the table of a survey with at most one meta of a block on a volume
+pub record IsTable (volumes : ℕ) (survey : PoolSurvey) : Type 0 where
+  pub blocks : ArePoolBlocks volumes survey.blocks
+  pub few : (id vol : ℕ) → length (metas_of (found_on (places_of survey.blocks id) vol)) ≤ 1
+  pub listed : (id : ℕ) (found : Vec FoundOn Global) → Contains survey.blocks.entries (id, found) → get nat_cmp survey.blocks id ≡ Some found
 
 -- a world that was surveyed
-pub record IsSurveyed (survey : Survey) (was : World) : Type 0 where
-  pub exact : IsSurveyOf was 1 survey
+pub record IsSurveyed (volumes : ℕ) (survey : PoolSurvey) (was : World) : Type 0 where
+  pub exact : IsPoolSurveyOf was volumes survey
   pub aside : DraftsAside was
-  pub on_one : (vol : ℕ) (path : List ℕ) → IsTrue (is_standing (slot_at was vol path)) → vol ≡ 1
+  pub within : (vol : ℕ) (path : List ℕ) → IsTrue (is_standing (slot_at was vol path)) → IsVolume volumes vol
 
-abbrev pub plan_of : Survey → List (List ℕ)
-plan_of survey = cleared_paths survey.blocks.entries survey.temporary
+abbrev pub plan_of : (ℕ → Option ℕ) → PoolSurvey → List Place
+plan_of kept survey = cleared_places kept survey.blocks.entries survey.temporary.items
 
-module _ (survey : Survey) (table : IsTable survey) where
-  metas_in_range : (id : ℕ) (files : FoundFiles) → found_of survey.blocks id ≡ Some files → (stamp : ℕ) → Contains files.metas.items stamp → IsStamp stamp
-  metas_in_range id files is stamp has =
-      All-contains IsStamp files.metas.items stamp (subst (λ (f : Option FoundFiles). All IsStamp (metas_of f)) is (table.blocks.metas id).in_range) has
+-- a copy is on the volume where one is kept
+abbrev pub KeepsWhole : (ℕ → Option ℕ) → PoolSurvey → Type 0
+KeepsWhole kept survey = (id : ℕ) (on : FoundOn) → Contains (places_of survey.blocks id) on → (own : ℕ) → kept id ≡ Some own → on.vol ≡ own → copy_stamp on.files ≡ None → ⊥
 
-  writing_in_range : (id : ℕ) (files : FoundFiles) → found_of survey.blocks id ≡ Some files → (stamp : ℕ) → Contains files.writing_metas.items stamp → IsStamp stamp
-  writing_in_range id files is stamp has =
-      All-contains IsStamp files.writing_metas.items stamp (subst (λ (f : Option FoundFiles). All IsStamp (writing_metas_of f)) is (table.blocks.writing_metas id).in_range) has
+-- what was found of a block
+abbrev pub found_at : PoolSurvey → ℕ → ℕ → Option FoundFiles
+found_at survey id = found_on (places_of survey.blocks id)
 
-  spares_path : (path : List ℕ) → Contains (plan_of survey) path → Spares (found_of survey.blocks) path
-  spares_path path has = spared (found_of survey.blocks) survey.blocks.entries survey.temporary table.listed
-      (λ id files in_table. table.blocks.ids id files (table.listed id files in_table))
-      (λ id files in_table stamp has_stamp. metas_in_range id files (table.listed id files in_table) stamp has_stamp)
-      path has
+module _ (volumes : ℕ) (survey : PoolSurvey) (table : IsTable volumes survey) where
+  pub files_are : (id : ℕ) (on : FoundOn) → Contains (places_of survey.blocks id) on → AreFiles (Some on.files)
+  files_are id on has = All-contains (λ (on : FoundOn). AreFiles (Some on.files)) (places_of survey.blocks id) on (table.blocks.places id).files has
 
-  module _ (was now : World) (surveyed : IsSurveyed survey was) (clears : Clears (plan_of survey) was now) (id : ℕ) (valid : IsBlockId id) where
-    slots : (vol : ℕ) (f : BlockFile) (b : Bool) → is_file f ≡ b → (view_of now id vol f ≡ view_of was id vol f) ⊎ ((view_of now id vol f ≡ empty) × Contains (plan_of survey) (path_of id f))
-    slots vol f true is = elim (clears.each vol (path_of id f)) [
-      | inl same ↦ inl (view_slot now id vol f is ∙ same ∙ sym (view_slot was id vol f is))
-      | inr gone ↦ inr (view_slot now id vol f is ∙ gone.0, gone.1)
-    ]
-    slots vol f false isnt = inl (no_file now id vol f isnt ∙ sym (no_file was id vol f isnt))
+  module _ (kept : ℕ → Option ℕ) (whole : KeepsWhole kept survey) where
+    in_places : (id : ℕ) (found : Vec FoundOn Global) → Contains survey.blocks.entries (id, found) → (on : FoundOn) → Contains found.items on → Contains (places_of survey.blocks id) on
+    in_places id found has on there = subst (λ (places : List FoundOn). Contains places on) (sym (places_here survey.blocks id found (table.listed id found has))) there
 
-    kept_meta : (stamp : ℕ) (b : Bool) → is_stamp stamp ≡ b → has_block (found_of survey.blocks id) ≡ true → view_of now id 1 (Meta stamp) ≡ view_of was id 1 (Meta stamp)
-    kept_meta stamp true is there = elim (slots 1 (Meta stamp) true is) [
-      | inl same ↦ same
-      | inr gone ↦ absurd (false≢true (sym ((spares_path (meta_path id stamp) gone.1).meta_file id stamp valid is refl) ∙ there))
-    ]
-    kept_meta stamp false isnt there = no_file now id 1 (Meta stamp) isnt ∙ sym (no_file was id 1 (Meta stamp) isnt)
-
-    was_on_one : (vol : ℕ) (f : BlockFile) (b : Bool) → is_file f ≡ b → IsTrue (is_standing (view_of was id vol f)) → vol ≡ 1
-    was_on_one vol f true is there = surveyed.on_one vol (path_of id f) (sym (ap is_standing (view_slot was id vol f is)) ∙ there)
-    was_on_one vol f false isnt there = absurd (not_standing (view_of was id vol f) (no_file was id vol f isnt) there)
-
-    not_drafted : (vol : ℕ) (f : BlockFile) (number : ℕ) (b : Bool) → is_file f ≡ b → IsFinalised f → view_of was id vol f ≡ drafted number → ⊥
-    not_drafted vol f number true is finalised drafts = aside_not_drafted id vol f was number is (finalised_apart f finalised) surveyed.aside drafts
-    not_drafted vol f number false isnt finalised drafts = not_standing (view_of was id vol f) (no_file was id vol f isnt) (ap is_standing drafts)
-
-    exact : IsExact was 1 id (found_of survey.blocks id)
-    exact = surveyed.exact.blocks id valid
-
-    pub partly : Partly (found_of survey.blocks id) (view_of was id) (view_of now id)
-    partly = record {
-      alike = λ vol f. elim (slots vol f (is_file f) refl) [ inl same ↦ inl same | inr gone ↦ inr gone.0 ];
-      block_kept = elim (slots 1 Block true refl) [
-        | inl same ↦ same
-        | inr gone ↦ absurd ((spares_path (block_path id) gone.1).block_file id valid refl)
-      ];
-      meta_kept = λ there stamp. kept_meta stamp (is_stamp stamp) refl there;
-      on_one = λ vol f there. was_on_one vol f (is_file f) refl there;
-      settled = λ vol f number finalised drafts. not_drafted vol f number (is_file f) refl finalised drafts;
-      block_is = exact.block;
-      writing_is = exact.writing;
-      metas_are = exact.metas;
-      few = table.few id;
+    listed_table : IsListedTable kept (places_of survey.blocks) survey.blocks.entries
+    listed_table = record {
+      valid = λ id found has. table.blocks.ids id found (table.listed id found has);
+      found = λ id found has on there. found_there (places_of survey.blocks id) (table.blocks.places id).rise on (in_places id found has on there);
+      metas = λ id found has on there stamp has_stamp. All-contains IsStamp on.files.metas.items stamp (files_are id on (in_places id found has on there)).metas.in_range has_stamp;
+      writing_metas = λ id found has on there stamp has_stamp.
+          All-contains IsStamp on.files.writing_metas.items stamp (files_are id on (in_places id found has on there)).writing_metas.in_range has_stamp;
+      whole = λ id found has on there own at here none. whole id on (in_places id found has on there) own at here none;
     }
 
-    module _ (clear : AreClear (plan_of survey) now) where
-      standing_file : (f : BlockFile) → IsTrue (is_standing (view_of now id 1 f)) → IsTrue (is_file f)
-      standing_file f there = elim (cases_Bool (is_file f)) [ inl is ↦ is | inr isnt ↦ absurd (not_standing (view_of now id 1 f) (no_file now id 1 f isnt) there) ]
+    plan_goes : (vol id : ℕ) (file : BlockFile) → IsBlockId id → IsTrue (is_file file) → Contains (plan_of kept survey) (vol, path_of id file) → goes (kept id) (found_at survey id vol) vol file ≡ true
+    plan_goes vol id file valid is has = goes_only kept (places_of survey.blocks) survey.blocks.entries survey.temporary.items listed_table vol id file valid is has
 
-      -- what stands isn't cleared
-      not_cleared : (f : BlockFile) → IsTrue (is_standing (view_of now id 1 f)) → Contains (plan_of survey) (path_of id f) → ⊥
-      not_cleared f there has =
-          not_standing (view_of now id 1 f) (view_slot now id 1 f (standing_file f there) ∙ clear (path_of id f) has) there
+    plan_has : (id vol : ℕ) (file : BlockFile) → IsFound (found_at survey id vol) file → goes (kept id) (found_at survey id vol) vol file ≡ true → Contains (plan_of kept survey) (vol, path_of id file)
+    plan_has id vol file is it = by (get nat_cmp survey.blocks id) refl
+      where
+        by : (o : Option (Vec FoundOn Global)) → get nat_cmp survey.blocks id ≡ o → Contains (plan_of kept survey) (vol, path_of id file)
+        by None none = absurd (none-some (found_some (found_at survey id vol) file is).0
+            (sym (ap (λ (places : List FoundOn). found_on places vol) (no_places survey.blocks id none)) ∙ (found_some (found_at survey id vol) file is).1))
+        by (Some found) some =
+            let same : found_at survey id vol ≡ found_on found.items vol = ap (λ (places : List FoundOn). found_on places vol) (places_here survey.blocks id found some) in
+            clears_going kept survey.blocks.entries survey.temporary.items id found (found_listed id survey.blocks.entries found some) vol file
+            (subst (λ (o : Option FoundFiles). IsFound o file) same is) (subst (λ (o : Option FoundFiles). goes (kept id) o vol file ≡ true) same it)
 
-      stood : (f : BlockFile) → IsTrue (is_standing (view_of now id 1 f)) → IsTrue (is_standing (view_of was id 1 f))
-      stood f there = was_standing (found_of survey.blocks id) (view_of was id) (view_of now id) partly 1 f there
+  module _ (was : World) (surveyed : IsSurveyed volumes survey was) (id : ℕ) (valid : IsBlockId id) where
+    standing_file : (vol : ℕ) (f : BlockFile) → IsTrue (is_standing (view_of was id vol f)) → IsTrue (is_file f)
+    standing_file vol f there = elim (cases_Bool (is_file f)) [ inl is ↦ is | inr isnt ↦ absurd (not_standing (view_of was id vol f) (no_file was id vol f isnt) there) ]
 
-      -- a file of a move
-      no_temporary : (f : BlockFile) → dir_of id f ≡ codes "tmp" → IsTrue (is_standing (view_of now id 1 f)) → ⊥
-      no_temporary f dir there =
-          let listing : IsListing was 1 (dir_of id f) survey.temporary = subst (λ (d : List ℕ). IsListing was 1 d survey.temporary) (sym dir) surveyed.exact.temporary in
-          let named = file_listed was id 1 f survey.temporary valid (standing_file f there) listing (stood f there) in
-          let path : path_in (codes "tmp") (name_of id f) ≡ path_of id f = ap (λ (d : List ℕ). path_in d (name_of id f)) (sym dir) ∙ path_in_own_dir id f in
-          not_cleared f there (subst (λ (p : List ℕ). Contains (plan_of survey) p) path (clears_temporary survey.blocks.entries survey.temporary (name_of id f) named))
+    was_within : (vol : ℕ) (f : BlockFile) → IsTrue (is_standing (view_of was id vol f)) → IsVolume volumes vol
+    was_within vol f there = surveyed.within vol (path_of id f) (sym (ap is_standing (view_slot was id vol f (standing_file vol f there))) ∙ there)
 
-      left_none : found_of survey.blocks id ≡ None → (f : BlockFile) → IsTrue (is_standing (view_of now id 1 f)) → ⊥
-      left_none is Block there = false≢true (sym (ap has_block is) ∙ exact.block ∙ stood Block there)
-      left_none is (Meta stamp) there =
-          let has : Contains (metas_of None) stamp = subst (λ (f : Option FoundFiles). Contains (metas_of f) stamp) is ((exact.metas stamp).1 (stood (Meta stamp) there)) in
-          absurd (omega (arith, has.1))
-      left_none is WritingBlock there = false≢true (sym (ap has_writing is) ∙ exact.writing ∙ stood WritingBlock there)
-      left_none is (WritingMeta stamp) there =
-          let has : Contains (writing_metas_of None) stamp = subst (λ (f : Option FoundFiles). Contains (writing_metas_of f) stamp) is ((exact.writing_metas stamp).1 (stood (WritingMeta stamp) there)) in
-          absurd (omega (arith, has.1))
-      left_none is TemporaryBlock there = no_temporary TemporaryBlock refl there
-      left_none is (TemporaryMeta stamp) there = no_temporary (TemporaryMeta stamp) refl there
+    found_within : (vol : ℕ) (f : BlockFile) → IsFound (found_at survey id vol) f → IsVolume volumes vol
+    found_within vol f is =
+        let some = found_some (found_at survey id vol) f is in
+        let on = on_there (places_of survey.blocks id) vol some.0 some.1 in
+        subst (λ v. IsVolume volumes v) on.2 (All-contains (λ (on : FoundOn). IsVolume volumes on.vol) (places_of survey.blocks id) on.0 (table.blocks.places id).on_volumes on.1)
 
-      module _ (files : FoundFiles) (is : found_of survey.blocks id ≡ Some files) where
-        in_table : Contains survey.blocks.entries (id, files)
-        in_table = found_listed id survey.blocks.entries files is
+    exact_on : (vol : ℕ) → IsVolume volumes vol → IsExact was vol id (found_at survey id vol)
+    exact_on vol there = surveyed.exact.blocks id valid vol there.0 there.1
 
-        left_block : IsTrue (is_standing (view_of now id 1 Block)) → files.block ≡ true
-        left_block there = sym (ap has_block is) ∙ exact.block ∙ stood Block there
+    found_stands : (vol : ℕ) (f : BlockFile) → IsExact was vol id (found_at survey id vol) → IsFound (found_at survey id vol) f → IsTrue (is_standing (view_of was id vol f))
+    found_stands vol Block exact is = sym exact.block ∙ is
+    found_stands vol (Meta stamp) exact is = (exact.metas stamp).0 is
+    found_stands vol WritingBlock exact is = sym exact.writing ∙ is
+    found_stands vol (WritingMeta stamp) exact is = (exact.writing_metas stamp).0 is
+    found_stands vol TemporaryBlock exact is = absurd is
+    found_stands vol (TemporaryMeta stamp) exact is = absurd is
 
-        meta_there : (stamp : ℕ) → IsTrue (is_standing (view_of now id 1 (Meta stamp))) → Contains files.metas.items stamp
-        meta_there stamp there = subst (λ (f : Option FoundFiles). Contains (metas_of f) stamp) is ((exact.metas stamp).1 (stood (Meta stamp) there))
+    stands_found : (vol : ℕ) (f : BlockFile) → IsExact was vol id (found_at survey id vol) → is_looked_for f ≡ true → IsTrue (is_standing (view_of was id vol f)) → IsFound (found_at survey id vol) f
+    stands_found vol Block exact looked there = exact.block ∙ there
+    stands_found vol (Meta stamp) exact looked there = (exact.metas stamp).1 there
+    stands_found vol WritingBlock exact looked there = exact.writing ∙ there
+    stands_found vol (WritingMeta stamp) exact looked there = (exact.writing_metas stamp).1 there
+    stands_found vol TemporaryBlock exact looked there = absurd (false≢true looked)
+    stands_found vol (TemporaryMeta stamp) exact looked there = absurd (false≢true looked)
 
-        left_meta : (stamp : ℕ) → IsTrue (is_standing (view_of now id 1 (Meta stamp))) → files.block ≡ true
-        left_meta stamp there = elim (cases_Bool files.block) [
-          | inl some ↦ some
-          | inr none ↦ absurd (not_cleared (Meta stamp) there (clears_meta survey.blocks.entries survey.temporary id files in_table none stamp (meta_there stamp there)))
+    not_drafted : (vol : ℕ) (f : BlockFile) (number : ℕ) → IsFinalised f → view_of was id vol f ≡ drafted number → ⊥
+    not_drafted vol f number finalised drafts =
+        aside_not_drafted id vol f was number (standing_file vol f (ap is_standing drafts)) (finalised_apart f finalised) surveyed.aside drafts
+
+    pub shown : IsShown (found_at survey id) (view_of was id)
+    shown = record {
+      stands = λ vol f is. found_stands vol f (exact_on vol (found_within vol f is)) is;
+      stood = λ vol f looked there. stands_found vol f (exact_on vol (was_within vol f there)) looked there;
+      settled = not_drafted;
+      few = λ vol. table.few id vol;
+    }
+
+    -- the length of the block file is its size
+    pub size_here : (told : Option (List World)) → IsWorldOf told was → (vol len : ℕ) → has_block (found_at survey id vol) ≡ true → IsSizeOf told vol (block_path id) len →
+        len ≡ len_on (view_of was id) vol
+    size_here told is vol len there size =
+        let standing : IsTrue (is_standing (view_of was id vol Block)) = shown.stands vol Block there in
+        let none = aside_no_draft id vol Block was refl surveyed.aside in
+        elim (size was is (λ absent. false≢true (sym (ap is_standing (view_absent was id vol Block refl absent)) ∙ standing))) [
+          | inl sized ↦
+              let slot : view_of was id vol Block ≡ holds sized.0 =
+              view_slot was id vol Block refl
+              ∙ ap (λ d. slot_of d (was.settled vol (block_path id))) (no_number was vol (block_path id) none)
+              ∙ ap (slot_of None) sized.1 in
+              sym sized.2 ∙ sym (ap (λ s. length (slot_bytes s)) slot)
+          | inr drafts ↦ absurd (false≢true (sym none ∙ drafts))
         ]
 
-        writing_meta_there : (stamp : ℕ) → IsTrue (is_standing (view_of now id 1 (WritingMeta stamp))) → Contains files.writing_metas.items stamp
-        writing_meta_there stamp there =
-            subst (λ (f : Option FoundFiles). Contains (writing_metas_of f) stamp) is ((exact.writing_metas stamp).1 (stood (WritingMeta stamp) there))
+    module _ (kept : ℕ → Option ℕ) (whole : KeepsWhole kept survey) (now : World) (clears : Clears (plan_of kept survey) was now) where
+      slots : (vol : ℕ) (f : BlockFile) (b : Bool) → is_file f ≡ b →
+          (view_of now id vol f ≡ view_of was id vol f) ⊎ ((view_of now id vol f ≡ empty) × (goes (kept id) (found_at survey id vol) vol f ≡ true))
+      slots vol f true is = elim (clears.each vol (path_of id f)) [
+        | inl same ↦ inl (view_slot now id vol f is ∙ same ∙ sym (view_slot was id vol f is))
+        | inr gone ↦ inr (view_slot now id vol f is ∙ gone.0, plan_goes kept whole vol id f valid is gone.1)
+      ]
+      slots vol f false isnt = inl (no_file now id vol f isnt ∙ sym (no_file was id vol f isnt))
 
-        writing_there : IsTrue (is_standing (view_of now id 1 WritingBlock)) → files.writing ≡ true
-        writing_there there = sym (ap has_writing is) ∙ exact.writing ∙ stood WritingBlock there
+      pub partly : Partly (kept id) (found_at survey id) (view_of was id) (view_of now id)
+      partly = record {
+        alike = λ vol f. elim (slots vol f (is_file f) refl) [ inl same ↦ inl same | inr gone ↦ inr gone.0 ];
+        stays = λ vol f stay. elim (slots vol f (is_file f) refl) [ inl same ↦ same | inr gone ↦ absurd (false≢true (sym stay ∙ gone.1)) ];
+      }
 
-        no_replica : (stamp : ℕ) → IsTrue (is_standing (view_of now id 1 (WritingMeta stamp))) → (kept : ℕ) → outcome_of files ≡ Final kept → ⊥
-        no_replica stamp there kept made =
-            not_cleared (WritingMeta stamp) there (clears_writing_meta survey.blocks.entries survey.temporary id files in_table kept made stamp (writing_meta_there stamp there))
+      module _ (clear : AreClear (plan_of kept survey) now) where
+        now_file : (vol : ℕ) (f : BlockFile) → IsTrue (is_standing (view_of now id vol f)) → IsTrue (is_file f)
+        now_file vol f there = elim (cases_Bool (is_file f)) [ inl is ↦ is | inr isnt ↦ absurd (not_standing (view_of now id vol f) (no_file now id vol f isnt) there) ]
 
-        left_writing : (stamp : ℕ) → IsTrue (is_standing (view_of now id 1 (WritingMeta stamp))) → files.writing ≡ true
-        left_writing stamp there = elim (cases_Bool files.writing) [
-          | inl some ↦ some
-          | inr none ↦ absurd (not_cleared (WritingMeta stamp) there
-              (clears_lone_meta survey.blocks.entries survey.temporary id files in_table (no_replica stamp there) none stamp (writing_meta_there stamp there)))
+        -- what stands isn't cleared
+        not_cleared : (vol : ℕ) (f : BlockFile) → IsTrue (is_standing (view_of now id vol f)) → Contains (plan_of kept survey) (vol, path_of id f) → ⊥
+        not_cleared vol f there has = not_standing (view_of now id vol f) (view_slot now id vol f (now_file vol f there) ∙ clear vol (path_of id f) has) there
+
+        stood_before : (vol : ℕ) (f : BlockFile) → IsTrue (is_standing (view_of now id vol f)) → IsTrue (is_standing (view_of was id vol f))
+        stood_before vol f there = was_standing (kept id) (found_at survey id) (view_of was id) (view_of now id) shown partly vol f there
+
+        -- a file of a move
+        no_temporary : (vol : ℕ) (f : BlockFile) → dir_of id f ≡ codes "tmp" → IsTrue (is_standing (view_of now id vol f)) → ⊥
+        no_temporary vol f dir there =
+            let stood = stood_before vol f there in
+            let on = was_within vol f stood in
+            let names = get_or survey.temporary.items (vol - 1) [] in
+            let listing : IsListing was vol (dir_of id f) names = subst (λ (d : List ℕ). IsListing was vol d names) (sym dir) (surveyed.exact.temporary vol on.0 on.1) in
+            let named = file_listed was id vol f names valid (now_file vol f there) listing stood in
+            let path : path_in (codes "tmp") (name_of id f) ≡ path_of id f = ap (λ (d : List ℕ). path_in d (name_of id f)) (sym dir) ∙ path_in_own_dir id f in
+            let high : vol ≤ length survey.temporary.items = subst (λ n. vol ≤ n) (sym surveyed.exact.counted) on.1 in
+            not_cleared vol f there (subst (λ (p : List ℕ). Contains (plan_of kept survey) (vol, p)) path
+            (clears_temporary kept survey.blocks.entries survey.temporary.items vol (name_of id f) on.0 high named))
+
+        stays_looked : (vol : ℕ) (f : BlockFile) → is_looked_for f ≡ true → IsTrue (is_standing (view_of now id vol f)) → goes (kept id) (found_at survey id vol) vol f ≡ false
+        stays_looked vol f looked there = elim (cases_Bool (goes (kept id) (found_at survey id vol) vol f)) [
+          | inl it ↦ absurd (not_cleared vol f there (plan_has kept whole id vol f (shown.stood vol f looked (stood_before vol f there)) it))
+          | inr stays ↦ stays
         ]
 
-        left_some : (f : BlockFile) → IsTrue (is_standing (view_of now id 1 f)) → Left files f
-        left_some Block there = left_block there
-        left_some (Meta stamp) there = (left_meta stamp there, meta_there stamp there)
-        left_some WritingBlock there = (
-          λ kept made. not_cleared WritingBlock there (clears_writing survey.blocks.entries survey.temporary id files in_table kept made (writing_there there)),
-          writing_there there,
-        )
-        left_some (WritingMeta stamp) there = (no_replica stamp there, left_writing stamp there, writing_meta_there stamp there)
-        left_some TemporaryBlock there = no_temporary TemporaryBlock refl there
-        left_some (TemporaryMeta stamp) there = no_temporary (TemporaryMeta stamp) refl there
-
-      module _ (M : List ℕ → Replica → Type 0) (told : Option (List World)) (books : BlockBooks) (bytes : List ℕ)
-          (bytes_are : bytes ≡ slot_bytes (view_of was id 1 Block))
-          (len_is : (len : ℕ) → has_block (found_of survey.blocks id) ≡ true → IsSizeOf told (block_path id) len → len ≡ length bytes)
-          (matches : (files : FoundFiles) → found_of survey.blocks id ≡ Some files → (made : MakesFinal files) → M (slot_bytes (view_of was id 1 (Meta made.stamp))) (replica_of made.stamp bytes)) where
-        stands_by : (found : Option FoundFiles) → found_of survey.blocks id ≡ found → SaysFound told id found books →
-            BlockStands M (view_of now id) books (cell_of bytes books.entry)
-        stands_by None is says = none_stands M told id books bytes (view_of was id) (view_of now id)
-            (subst (λ (f : Option FoundFiles). Partly f (view_of was id) (view_of now id)) is partly) (left_none is) says
-        stands_by (Some files) is says = files_stand M told id books bytes (view_of was id) (view_of now id) files
-            (subst (λ (f : Option FoundFiles). Partly f (view_of was id) (view_of now id)) is partly) (left_some files is)
-            (metas_in_range id files is) (writing_in_range id files is) bytes_are
-            (λ len there size. len_is len (ap has_block is ∙ there) size)
-            (λ made. matches files is made) says
-
-        -- the block stands
-        pub block_stands : SaysFound told id (found_of survey.blocks id) books → BlockStands M (view_of now id) books (cell_of bytes books.entry)
-        block_stands says = stands_by (found_of survey.blocks id) refl says
+        -- WHAT STANDS WHEN ALL WAS CLEARED DOESN'T GO
+        pub left : (vol : ℕ) (f : BlockFile) → IsTrue (is_standing (view_of now id vol f)) → goes (kept id) (found_at survey id vol) vol f ≡ false
+        left vol Block there = stays_looked vol Block refl there
+        left vol (Meta stamp) there = stays_looked vol (Meta stamp) refl there
+        left vol WritingBlock there = stays_looked vol WritingBlock refl there
+        left vol (WritingMeta stamp) there = stays_looked vol (WritingMeta stamp) refl there
+        left vol TemporaryBlock there = absurd (no_temporary vol TemporaryBlock refl there)
+        left vol (TemporaryMeta stamp) there = absurd (no_temporary vol (TemporaryMeta stamp) refl there)

@@ -1,5 +1,5 @@
 -- What an opening gives.
-use Rattle.std.specs.Prelude.{ℕ, ◌≡◌, ◌≢◌, ◌⊎◌, List, [], ◌∷◌, Option, Some, IsSome, Result, Ok, Err}
+use Rattle.std.specs.Prelude.{ℕ, ◌≡◌, ◌≢◌, ◌⊎◌, List, [], ◌∷◌, Option, Some, IsSome, IsSomeAnd, Result, Ok, Err}
 use Rattle.volume_layout.specs.Paths.{IsBlockId, IsStamp, meta_path}
 use Rattle.disk_model.specs.declared.disks.PoolDisks.{Ghosts}
 use Rattle.disk_model.specs.declared.disks.Draft as drafts
@@ -10,7 +10,7 @@ use Rattle.disk_model.specs.Worlds.{World}
 use Rattle.disk_model.specs.Told.{IsWorldOf, InEachWorld, CanLeave}
 use Rattle.disk_model.specs.Moments.{AddsOnly}
 use Rattle.map_model.specs.Cells.{Replica, Cell, Cells, absent, final, waiting}
-use Rattle.map_model.specs.Copies.{Spot, IsCopy, IsAlone, OneWhole}
+use Rattle.map_model.specs.Copies.{BlockFiles, Spot, own_spot, IsCopy, IsGreatestCopy, IsAlone, OneWhole}
 use Rattle.map_model.specs.Openings.{MakesCells, shown_files, ReadsAlike}
 use Rattle.map_model.specs.Sound.{Metas, Knowledge, matching, exactly, Fits, HasSoundCopies, IsSound}
 use Rattle.map_model.specs.Slots.{view_of}
@@ -25,16 +25,17 @@ use Rattle.pool_open.specs.Waiting.{WaitsAs}
 abbrev pub HoldsImage : Option (List World) → Files → Type 0
 HoldsImage told image = told ≡ Some (record { settled = image; drafts = [] } ∷ [])
 
--- two metas of one block stand in its own directory
+-- two metas of one block stand in its own directory on a volume
 pub record HasTwoMetas (image : Files) : Type 0 where
+  pub vol : ℕ
   pub id : ℕ
   pub stamp : ℕ
   pub other : ℕ
   pub valid : IsBlockId id
   pub in_range : IsStamp stamp × IsStamp other
   pub apart : stamp ≢ other
-  pub stands : IsSome (image 1 (meta_path id stamp))
-  pub other_stands : IsSome (image 1 (meta_path id other))
+  pub stands : IsSome (image vol (meta_path id stamp))
+  pub other_stands : IsSome (image vol (meta_path id other))
 
 -- the disks that a fault gives back
 abbrev pub fault_disks : {D : Type 0} → OpenFault D → D
@@ -70,13 +71,18 @@ pub record ReadsBack (world : World) (image : Files) : Type 0 where
 abbrev pub ReadsAsOne : Option (List World) → Files → Type 0
 ReadsAsOne told image = (world : World) × IsWorldOf told world × ReadsBack world image
 
--- The cells are those of a world that was told, and so are the meta files, and the books of the blocks that wait: it was shown,
--- and every image that a crash could leave since reads as it does.
+-- the entry's volume is that of the copy that is read
+abbrev pub KeptOn : BlockFiles → BlockBooks → Replica → Type 0
+KeptOn files books replica = IsSomeAnd books.entry (λ entry. IsGreatestCopy files (own_spot entry.vol) replica)
+
+-- The cells are those of a world that was told, and so are the meta files, the volumes of the replicas, and the books of the
+-- blocks that wait: it was shown, and every image that a crash could leave since reads as it does.
 pub record Shows (told : Option (List World)) (cells : Cells) (metas : Metas) (books : ℕ → BlockBooks) (past since : ℕ → Files → Type 0) : Type 0 where
   pub world : World
   pub is : IsWorldOf told world
   pub made : MakesCells (shown_files world) cells
   pub metas_are : HasFiles (exactly metas) world
+  pub placed : (id : ℕ) → IsBlockId id → (replica : Replica) → cells id ≡ final replica → KeptOn (shown_files world id) (books id) replica
   pub waiting : (id : ℕ) → IsBlockId id → cells id ≡ waiting → WaitsAs (view_of world id) (books id)
   pub images : AddsOnly past since (ReadsAlike (shown_files world))
 

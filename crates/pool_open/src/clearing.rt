@@ -1,28 +1,33 @@
-//! Removing what stands at some paths.
-ghost use Rattle.std.specs.Prelude.{◌≤◌, IsErr, OnOk};
+//! Removing what stands at some places.
+ghost use Rattle.std.specs.Prelude.{IsErr, OnOk};
 ghost use Rattle.disk_model.specs.Causes.{Rose};
 ghost use Rattle.disk_model.specs.Moments.{AddsOnly};
 ghost use Rattle.disk_model.specs.Told.{InEachWorld};
 ghost use Rattle.disk_model.specs.Marks.{GoesOn};
-ghost use Rattle.pool_open.specs.Plan.{texts};
-ghost use Rattle.pool_open.specs.Clearing.{AreClear, ComesCleared, LeftCleared};
+ghost use Rattle.pool_open.specs.Plan.{places_at};
+ghost use Rattle.pool_open.specs.Clearing.{AreOnVolumes, AreClear, ComesCleared, LeftCleared};
 
 use disk_model::{Failed, PoolDisks};
 
-/// The volume that is opened.
-pub const VOLUME: u8 = 1;
+/// A path on a volume.
+#[derive(Drop)]
+pub struct VolumePath {
+    /// The volume, from 1.
+    pub vol: u8,
+    pub path: String,
+}
 
-/// Removes what stands at these paths of volume 1, one after the other, up to the first removal that fails.
-pub fn clear_paths<D: PoolDisks>(disks: &mut D, paths: &[String]) -> Result<(), Failed>
-    requires some_volume { 1 ≤ D.volume_count disks.old }
-    ensures some { InEachWorld (D.worlds disks.new) (ComesCleared (texts paths.now) (D.worlds disks.old)) }
-    ensures all { OnOk result (InEachWorld (D.worlds disks.new) (AreClear (texts paths.now))) }
-    ensures images { AddsOnly (D.left_since disks.old) (D.left_since disks.new) (LeftCleared (texts paths.now) (D.worlds disks.old)) }
+/// Removes what stands at these places, one after the other, up to the first removal that fails.
+pub fn clear_places<D: PoolDisks>(disks: &mut D, places: &[VolumePath]) -> Result<(), Failed>
+    requires on_volumes { AreOnVolumes (D.volume_count disks.old) (places_at places.now) }
+    ensures some { InEachWorld (D.worlds disks.new) (ComesCleared (places_at places.now) (D.worlds disks.old)) }
+    ensures all { OnOk result (InEachWorld (D.worlds disks.new) (AreClear (places_at places.now))) }
+    ensures images { AddsOnly (D.left_since disks.old) (D.left_since disks.new) (LeftCleared (places_at places.now) (D.worlds disks.old)) }
     ensures goes_on { GoesOn D.PoolDisks disks.old disks.new }
     ensures failed { IsErr result → Rose (D.faults disks.old) (D.faults disks.new) }
 {
-    for at in 0..paths.len() {
-        disks.remove(VOLUME, paths[at].as_str())?;
+    for at in 0..places.len() {
+        disks.remove(places[at].vol, places[at].path.as_str())?;
     }
     Ok(())
 }

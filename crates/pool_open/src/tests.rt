@@ -49,7 +49,7 @@ fn opened<D: PoolDisks>(alloc: Global, disks: D) -> Answer
     let Ok(shares) = vec![in alloc; 1 << 50] else {
         return Answer::Memory;
     };
-    match open_pool(alloc, disks, shares) {
+    match open_pool(alloc, disks, shares, 1) {
         Ok(pool) => Opened(pool.map.entry_count(), pool.map.leftover_count()),
         Err(OpenFault::Failed(_)) => Answer::Failed,
         Err(OpenFault::Memory(_)) => Answer::Memory,

@@ -1,10 +1,6 @@
-use Rattle.std.proofs.Common.{◌≡◌, ◌≤◌, ◌⊎◌, All, Contains, take}
-use Rattle.volume_layout.specs.Paths.{IsStamp}
+use Rattle.std.proofs.Common.{take}
+use Rattle.pool_open.specs.Found.{IsGreatestStamp, writing_stamps}
 use Rattle.pool_open.proofs.books.greatest_stamp.Given as goal
 
-abbrev pub invariant-loop-stamp : goal.invariant-loop-stamp
-invariant-loop-stamp l = record {
-  in_range : IsStamp l.greatest;
-  above : All (λ other. other ≤ l.greatest) (take l.stamp-index l.stamps);
-  one_of : Contains l.stamps l.greatest ⊎ (l.greatest ≡ 1);
-}
+abbrev pub invariant-loop-on : goal.invariant-loop-on
+invariant-loop-on l = IsGreatestStamp (writing_stamps (take l.on-index l.places)) l.greatest

@@ -1,10 +1,10 @@
-use Rattle.std.proofs.Common.{◌<◌, arith, length}
-use Rattle.std.specs.Prelude.{codes}
-use Rattle.disk_model.specs.Files.{path_in}
-use Rattle.pool_open.proofs.Lists.{mapped_more}
+use Rattle.std.proofs.Common.{◌+◌, arith}
+use Rattle.pool_open.proofs.Temporary.{temporary_more}
 use Rattle.pool_open.proofs.paths.list_temporary.Goals as goal
 
-pub loop-i-preserved : goal.loop-i-preserved
-loop-i-preserved c =
-    let below : c.loop-i.i < length c.args.names.now = omega (arith, c.loop-i-test.true, c.len-i-end.ensures) in
-    mapped_more (path_in (codes "tmp")) _ _ _ c.args.names.now c.loop-i.i c.get.result.now below c.get.ensures c.loop-i.invariant c.in_ok-push_temporary.ensures
+pub loop-names-preserved : goal.loop-names-preserved
+loop-names-preserved c = record {
+  counted = omega (arith, c.loop-names.invariant.counted);
+  places_are = temporary_more _ _ _ c.args.temporary.now c.loop-names.names-index (c.loop-names.vol + 1) c.names-item.result c.loop-names-test.true c.names-item.is
+      (omega (arith, c.loop-names.invariant.counted)) c.loop-names.invariant.places_are c.in_ok-push_names.ensures;
+}

@@ -1,8 +1,9 @@
-use Rattle.std.proofs.Common.{◌≡◌, ◌++◌, map, take}
-use Rattle.std.specs.Prelude.{codes}
-use Rattle.disk_model.specs.Files.{path_in}
-use Rattle.pool_open.specs.Plan.{texts}
+use Rattle.std.proofs.Common.{◌≡◌, ◌++◌, take}
+use Rattle.pool_open.specs.Plan.{places_at, temporary_from}
 use Rattle.pool_open.proofs.paths.list_temporary.Given as goal
 
-abbrev pub invariant-loop-i : goal.invariant-loop-i
-invariant-loop-i l = texts l.paths.items ≡ texts l.fn.paths.items ++ map (path_in (codes "tmp")) (take l.i l.names)
+abbrev pub invariant-loop-names : goal.invariant-loop-names
+invariant-loop-names l = record {
+  counted : l.vol ≡ l.names-index;
+  places_are : places_at l.places.items ≡ places_at l.fn.places.items ++ temporary_from 1 (take l.names-index l.temporary);
+}

@@ -1,7 +1,7 @@
 use Rattle.std.proofs.Common.{◌≡◌, ◌++◌, map, take}
 use Rattle.volume_layout.specs.Paths.{rbw_meta}
-use Rattle.pool_open.specs.Plan.{texts}
+use Rattle.pool_open.specs.Plan.{places_at}
 use Rattle.pool_open.proofs.paths.push_writing_metas.Given as goal
 
 abbrev pub invariant-loop-stamp : goal.invariant-loop-stamp
-invariant-loop-stamp l = texts l.paths.items ≡ texts l.fn.paths.items ++ map (rbw_meta l.id) (take l.stamp-index l.stamps)
+invariant-loop-stamp l = places_at l.places.items ≡ places_at l.fn.places.items ++ map (λ stamp. (l.on.vol, rbw_meta l.id stamp)) (take l.stamp-index l.stamp-items)
