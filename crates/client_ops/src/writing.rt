@@ -9,9 +9,8 @@ ghost use Rattle.map_model.specs.Sound.{nothing};
 ghost use Rattle.pair_draft.specs.Writers.{writer_of, FailedOf};
 ghost use Rattle.map_model.specs.Stands.{BlockBooks};
 ghost use Rattle.pool_state.specs.Books.{block_books};
-ghost use Rattle.pool_state.specs.BookSteps.{BooksStarted};
 ghost use Rattle.pool_state.specs.Stands.{Stands, StandsForSome};
-ghost use Rattle.pool_state.specs.Tenures.{KeepsWhole, Starts, IsWriterOf, GivesNumber};
+ghost use Rattle.pool_state.specs.Tenures.{KeepsWhole, Starts, StartsBooks, ChoosesAsBefore, IsWriterOf, GivesNumber};
 ghost use Rattle.pool_state.specs.Writers.{WriterStands};
 ghost use Rattle.client_ops.specs.Writing.{op_writer, fill_fault, BooksEnded, FillStands, EndsWrite, EndsAsWrite, FilledBelongs};
 
@@ -73,13 +72,12 @@ pub fn write_start<D: PoolDisks>(
     ensures step { (cells : Cells) → Stands pool.old nothing cells →
         Starts id stamp len result cells pool.old pool.new × KeepsWhole pool.old pool.new }
     ensures others { (other : ℕ) → other ≢ id → block_books pool.new.map other ≡ block_books pool.old.map other }
-    ensures books { BooksStarted result stamp len (block_books pool.old.map id) (block_books pool.new.map id) }
+    ensures books { StartsBooks id stamp len result pool.old pool.new }
     ensures writer { IfOk result (λ op. IsWriterOf pool.new (op_writer op) []) }
     ensures what { IfOk result (λ op. ((op_writer op).id ≡ id) × ((op_writer op).stamp ≡ stamp) × ((op_writer op).reserved ≡ len)) }
     ensures numbers { IfOk result (λ op. GivesNumber pool.old pool.new (D.Draft.place (op_writer op).block).number) }
     ensures meta_numbers { IfOk result (λ op. IfSome (op_writer op).meta (λ meta. GivesNumber pool.old pool.new (D.Draft.place meta).number)) }
     ensures goes_on { GoesOn D.PoolDisks pool.old.disks pool.new.disks }
-    ensures shares { pool.new.shares ≡ pool.old.shares }
     ensures failed { IsErrOf result StartFault.Failed → Rose (D.faults pool.old.disks) (D.faults pool.new.disks) }
 {
     match pool.start_write(alloc, id, stamp, len) {
@@ -139,7 +137,7 @@ pub fn op_end<D: PoolDisks>(pool: &mut Pool<D>, filled: Filled<D>) -> OpReply
     ensures books { (id stamp : ℕ) (bytes : List ℕ) → FilledBelongs pool.old id stamp bytes filled →
         BooksEnded (fill_fault filled) result (length bytes) (block_books pool.old.map id) (block_books pool.new.map id) }
     ensures goes_on { GoesOn D.PoolDisks pool.old.disks pool.new.disks }
-    ensures shares { pool.new.shares ≡ pool.old.shares }
+    ensures choosing { ChoosesAsBefore pool.old pool.new }
     ensures failed { result ≡ OpReply.Failed → fill_fault filled ≡ None → Rose (D.faults pool.old.disks) (D.faults pool.new.disks) }
 {
     match filled {

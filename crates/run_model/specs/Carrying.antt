@@ -10,7 +10,7 @@ use Rattle.map_model.specs.Cells.{Cells}
 use Rattle.map_model.specs.Steps.{Command}
 use Rattle.script_lang.specs.declared.reply.Reply.{Reply}
 use Rattle.script_lang.specs.declared.Line.{Line}
-use Rattle.script_lang.specs.declared.Line.TheVariants.{Reopen}
+use Rattle.script_lang.specs.declared.Line.TheVariants.{Reopen, Report}
 use Rattle.run_model.specs.State.{RunState}
 use Rattle.run_model.specs.Commands.{Trust, any_disks, telling_disks, sound_disks, CommandStep}
 use Rattle.run_model.specs.Lines.{Does}
@@ -43,6 +43,7 @@ pub record CarriesOut (Faulty : ℕ → ℕ → Type 0) (told : Option (List Wor
 -- the line asks for something on one block
 abbrev pub is_on_block : Line → Bool
 is_on_block Reopen = false
+is_on_block Report = false
 is_on_block line = is_carried line
 
 -- A line was carried out: the session stands for another state, to which the line leads, whatever is known of the

@@ -14,7 +14,7 @@ use Rattle.pair_draft.specs.Checking.{IsOnLength}
 use Rattle.pool_state.specs.Readers.{LooksForTwo}
 use Rattle.run_model.specs.Replies.{read_reply}
 use Rattle.run_model.specs.State.{Numbers, RunState}
-use Rattle.run_model.specs.Books.{RoomAsked, BookStep, BooksChange}
+use Rattle.run_model.specs.Books.{RoomAsked, BookStep, Draws, BooksChange}
 
 -- what is known of the disks: nothing, or that they tell their content, or also that each replica's meta file matched
 -- its bytes when they were opened first
@@ -114,17 +114,18 @@ given before after = record { first = before.next_number; last = after.next_numb
 -- One command on a block: the reply says the answer of a step of the cells, with the room that the books leave, a failure has its cause, want of memory
 -- leaves files only where a draft's number was given, what is given of a replica was looked for in this command, only
 -- the end of a write changes a meta file, only a command that begins a writer changes what is known of the writers, and
--- the books of the block change as its answer and its cell say.
+-- the books of the block and what is chosen by change as its answer and its cell say.
 pub record CommandStep (trust : Trust) (Faulty : ℕ → ℕ → Type 0) (old : RunState) (before : Mark) (id : ℕ) (command : Command) (reply : Reply) (new : RunState) (after : Mark) : Type 0 where
   pub answer : Answer
   pub says : Says trust (old.metas id) answer reply
   pub room : Room
-  pub asked : RoomAsked command old.shares old.books room
+  pub vol : ℕ
+  pub asked : RoomAsked command old.choosing old.books room vol
   pub cells : CellsStep old.cells (record { id = id; room = room; command = command; reply = answer }) new.cells
   pub fault : answer ≡ failed → FailsBy Faulty before after (old.writers id) (old.cells id) command (new.cells id)
   pub lack : answer ≡ memory → new.cells id ≡ waiting → before.next_number < after.next_number
   pub looked : IsContent answer → LooksForTwo before after
   pub metas : MetasAfter command answer old.metas id (new.cells id) new.metas
   pub writers : (other : ℕ) → new.writers other ≡ (if begins_writer command answer && other == id then given before after else old.writers other)
-  pub shares : new.shares ≡ old.shares
-  pub books : BooksChange id (BookStep command answer (new.cells id)) old.books new.books
+  pub choosing : Draws command answer (new.cells id) vol old.choosing new.choosing
+  pub books : BooksChange id (BookStep command answer (new.cells id) vol old.choosing.next_rev) old.books new.books

@@ -3,6 +3,7 @@ pub mod Replies
 pub mod Script
 pub mod Books
 pub mod Commands
+pub mod Reports
 pub mod Lines
 pub mod Images
 pub mod Carrying

@@ -1,16 +1,18 @@
 -- One line of a script, and the lines of a run.
-use Rattle.std.specs.Prelude.{ℕ, ◌≡◌, List, [], ◌∷◌, ⊤}
+use Rattle.std.specs.Prelude.{ℕ, ◌≡◌, List, [], ◌∷◌, length, ⊤}
 use Rattle.volume_layout.specs.Paths.{IsBlockId}
 use Rattle.script_lang.specs.declared.Line.{Line}
-use Rattle.script_lang.specs.declared.Line.TheVariants.{Open, Push, Finish, Drop, Write, Read, Delete, Reopen}
+use Rattle.script_lang.specs.declared.Line.TheVariants.{Open, Push, Finish, Drop, Write, Read, Delete, Reopen, Report}
 use Rattle.script_lang.specs.declared.reply.Reply.{Reply}
 use Rattle.script_lang.specs.declared.reply.Reply.TheVariants.{Done}
 use Rattle.map_model.specs.Cells.{Cells}
 use Rattle.map_model.specs.Steps.{start_write, push, finish, drop_write, write, read, delete, Reopened}
 use Rattle.pool_open.specs.Outcome.{IsOpened}
+use Rattle.pool_open.specs.Numbering.{ChoosesAnew, first_revision}
 use Rattle.disk_model.specs.Marks.{Mark, IsLater}
 use Rattle.run_model.specs.State.{RunState, Turn}
 use Rattle.run_model.specs.Books.{BooksOpened}
+use Rattle.run_model.specs.Reports.{Reports}
 use Rattle.run_model.specs.Commands.{Trust, any_disks, telling_disks, sound_disks, CommandStep}
 
 -- what closing the pool and opening it again leaves of its cells: no writer is open, and where the disks tell, each
@@ -26,8 +28,8 @@ pub record Reopens (trust : Trust) (old : RunState) (reply : Reply) (new : RunSt
   pub cells : CellsReopened trust old.cells new.cells
   pub metas : new.metas ≡ old.metas
   pub writers : (id : ℕ) → new.writers id ≡ old.writers id
-  pub shares : new.shares ≡ old.shares
-  pub books : (id : ℕ) → IsBlockId id → BooksOpened (new.cells id) (new.books id)
+  pub choosing : ChoosesAnew old.choosing.shares (first_revision old.choosing.next_rev) new.books new.choosing
+  pub books : (id : ℕ) → IsBlockId id → BooksOpened (length old.choosing.shares) (new.cells id) (new.books id)
 
 -- what each line does that is carried out
 abbrev pub Does : Trust → (ℕ → ℕ → Type 0) → RunState → Mark → Line → Reply → RunState → Mark → Type 0
@@ -39,6 +41,7 @@ Does trust Faulty old before (Write id stamp bytes) reply new after = CommandSte
 Does trust Faulty old before (Read id) reply new after = CommandStep trust Faulty old before id read reply new after
 Does trust Faulty old before (Delete id) reply new after = CommandStep trust Faulty old before id delete reply new after
 Does trust Faulty old before Reopen reply new after = Reopens trust old reply new
+Does trust Faulty old before Report reply new after = Reports old reply new
 Does trust Faulty old before line reply new after = ⊥
 
 -- one line: from this state and these counts it gives this reply and goes on to that state and those counts

@@ -4,7 +4,7 @@ use Rattle.line_io.specs.Lines.{terminated_lines, line_text, passes_limit}
 use Rattle.script_lang.specs.declared.LineFault.{LineFault}
 use Rattle.script_lang.specs.declared.LineFault.TheVariants.{Bad, Memory}
 use Rattle.script_lang.specs.declared.Line.{Line}
-use Rattle.script_lang.specs.declared.Line.TheVariants.{Blank, Open, Push, Finish, Drop, Write, Read, Delete, Reopen}
+use Rattle.script_lang.specs.declared.Line.TheVariants.{Blank, Open, Push, Finish, Drop, Write, Read, Delete, Reopen, Report}
 use Rattle.script_lang.specs.Script.{line_of}
 
 -- at the end of the input, at the first line outside the language with the column of the word that does not fit, at the
@@ -42,6 +42,7 @@ is_carried (Write id stamp bytes) = true
 is_carried (Read id) = true
 is_carried (Delete id) = true
 is_carried Reopen = true
+is_carried Report = true
 is_carried line = false
 
 -- a line, and those behind it: the script stops at a command that isn't carried out yet

@@ -6,6 +6,7 @@ use Rattle.script_lang.specs.declared.reply.Reply.{Reply}
 use Rattle.map_model.specs.Cells.{Cells}
 use Rattle.map_model.specs.Sound.{Metas}
 use Rattle.map_model.specs.Stands.{BlockBooks}
+use Rattle.pool_state.specs.Rooms.{Choosing}
 
 -- numbers of drafts and readers, from the first on and below the last
 pub record Numbers : Type 0 where
@@ -13,13 +14,13 @@ pub record Numbers : Type 0 where
   pub last : ℕ
 
 -- What a run knows: the cells of the pool, the meta files of its replicas, of each block that grows the numbers that the
--- command which began its writer gave, what the pool's books say of each block, and its share of each volume in bytes.
+-- command which began its writer gave, what the pool's books say of each block, and what it chooses volumes and revisions by.
 pub record RunState : Type 0 where
   pub cells : Cells
   pub metas : Metas
   pub writers : ℕ → Numbers
   pub books : ℕ → BlockBooks
-  pub shares : List ℕ
+  pub choosing : Choosing
 
 -- a line that was carried out, its reply, and the state and the counts after it
 pub record Turn : Type 0 where

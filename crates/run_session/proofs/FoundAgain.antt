@@ -1,5 +1,5 @@
 -- What opening a pool again shows, and what a crash can leave meanwhile.
-use Rattle.std.proofs.Common.{◌≡◌, inl, inr, ℕ, List, Option, Some, None, MatchOption, IfSome, refl, ap, sym, ◌∙◌, subst, IsTrue, IsSome}
+use Rattle.std.proofs.Common.{◌≡◌, inl, inr, ℕ, List, length, Option, Some, None, MatchOption, IfSome, refl, ap, sym, ◌∙◌, subst, IsTrue, IsSome}
 use Rattle.std.specs.Prelude.{Result, Ok, Err, OnOk, OnErr}
 use Rattle.disk_model.specs.Files.{Files}
 use Rattle.disk_model.specs.Worlds.{World}
@@ -23,9 +23,11 @@ use Rattle.map_model.proofs.OneReading.{ReadsAs-unique}
 use Rattle.map_model.proofs.SlotLemmas.{bytes-standing}
 use Rattle.map_model.specs.Tenures.{books_of}
 use Rattle.map_model.proofs.Owned.{IsOwn, own_file}
+use Rattle.pool_state.specs.Rooms.{Choosing}
 use Rattle.pool_state.specs.Stands.{PoolStands}
 use Rattle.pool_state.proofs.Whole.{block_whole}
 use Rattle.pair_draft.specs.Writers.{Writer}
+use Rattle.pool_open.specs.Numbering.{ChoosesAnew, first_revision}
 use Rattle.pool_open.specs.Outcome.{HasFiles, HasWholeFiles, ReadsAsOne, IsOpened, Opens}
 use Rattle.pool_open.proofs.Shown.{shown_view}
 use Rattle.script_lang.specs.declared.Line.TheVariants.{Reopen}
@@ -187,14 +189,22 @@ reads_sound stands image reads = reads.2.sound (worlds_known stands reads.0 read
 -- ---- the line
 
 -- the pool was opened again: no writer is open, and the session stands for what was found
-pub carried_reopen : {Faulty : ℕ → ℕ → Type 0} {shares shares' : List ℕ} {told told' : Option (List World)} {volumes volumes' : ℕ} {books books' : ℕ → BlockBooks}
-    {writers writers' : ℕ → Option Writer} {state : RunState} {before after : Mark} {past since : ℕ → Files → Type 0} → shares' ≡ shares → Standing shares told volumes books writers state →
-    (opens : Opens told told' volumes' books' past since) → ((id : ℕ) → writers' id ≡ None) → AddsOnly past since (ReadsAsOne told) → volumes' ≡ 1 → ((id : ℕ) → (books' id).ticket ≡ None) →
-    LineCarried Faulty told state before Reopen Done after (Standing shares' told' volumes' books' writers') (PoolStands told volumes books matching) (PoolStands told' volumes' books' matching) past since
-carried_reopen {shares = shares} {shares' = shares'} {told = told} {volumes = volumes} {books = books} {books' = books'} {writers' = writers'} {state = state} same_shares standing opens none images one free = record {
-  new = opened_of opens.cells state.metas state.writers books' shares';
+pub carried_reopen : {Faulty : ℕ → ℕ → Type 0} {choosing choosing' : Choosing} {told told' : Option (List World)} {volumes volumes' : ℕ} {books books' : ℕ → BlockBooks}
+    {writers writers' : ℕ → Option Writer} {state : RunState} {before after : Mark} {past since : ℕ → Files → Type 0} → Standing choosing told volumes books writers state →
+    (opens : Opens told told' volumes' books' past since) → ChoosesAnew choosing.shares (first_revision choosing.next_rev) books' choosing' → length choosing.shares ≡ volumes' →
+    ((id : ℕ) → writers' id ≡ None) → AddsOnly past since (ReadsAsOne told) → ((id : ℕ) → (books' id).ticket ≡ None) →
+    LineCarried Faulty told state before Reopen Done after (Standing choosing' told' volumes' books' writers') (PoolStands told volumes books matching) (PoolStands told' volumes' books' matching) past since
+carried_reopen {choosing = choosing} {choosing' = choosing'} {told = told} {volumes = volumes} {books = books} {books' = books'} {writers' = writers'} {state = state} standing opens anew shared none images free = record {
+  new = opened_of opens.cells state.metas state.writers books' choosing';
   stands = stands_opened writers' opens (opens.stands_by (exactly state.metas) (worlds_known standing.pool)) state.writers none;
-  does = λ trust known. record { done = refl; cells = by_trust trust known; metas = refl; writers = λ id. refl; shares = same_shares ∙ sym standing.shared; books = λ id valid. books_opened one free opens.stands id valid (opens.opened id valid) };
+  does = λ trust known. record {
+    done = refl;
+    cells = by_trust trust known;
+    metas = refl;
+    writers = λ id. refl;
+    choosing = subst (λ (c : Choosing). ChoosesAnew c.shares (first_revision c.next_rev) books' choosing') (sym standing.chooses_by) anew;
+    books = λ id valid. books_opened (length state.choosing.shares) (sym shared ∙ ap (λ (c : Choosing). length c.shares) (sym standing.chooses_by)) free opens.stands id valid (opens.opened id valid);
+  };
   crash = record {
     images = λ t image s. elim (images t image s) [ inl earlier ↦ inl earlier | inr reads ↦ inr (inl (reads_allowed standing.pool image reads)) ];
     sound = λ was. opens.stands_by matching (worlds_known was);
@@ -214,8 +224,8 @@ carried_reopen {shares = shares} {shares' = shares'} {told = told} {volumes = vo
     by_trust sound_disks known = by_telling known.0
 
 -- it wasn't: what a crash can leave, the cells before allow
-pub stays_reopen : {shares : List ℕ} {told : Option (List World)} {volumes : ℕ} {books : ℕ → BlockBooks} {writers : ℕ → Option Writer} {state : RunState} {past since : ℕ → Files → Type 0} →
-    Standing shares told volumes books writers state → AddsOnly past since (ReadsAsOne told) → StaysCrashSafe state.cells (PoolStands told volumes books matching) past since
+pub stays_reopen : {choosing : Choosing} {told : Option (List World)} {volumes : ℕ} {books : ℕ → BlockBooks} {writers : ℕ → Option Writer} {state : RunState} {past since : ℕ → Files → Type 0} →
+    Standing choosing told volumes books writers state → AddsOnly past since (ReadsAsOne told) → StaysCrashSafe state.cells (PoolStands told volumes books matching) past since
 stays_reopen standing images = record {
   images = λ t image s. elim (images t image s) [ inl earlier ↦ inl earlier | inr reads ↦ inr (reads_allowed standing.pool image reads) ];
   sound_images = λ was t image s. elim (images t image s) [ inl earlier ↦ inl earlier | inr reads ↦ inr (reads_sound was image reads) ];
@@ -223,9 +233,9 @@ stays_reopen standing images = record {
 }
 
 -- by what a call answered
-pub on_ok : {T E P Q : Type 0} (result : Result T E) → (P → Q) → OnOk result P → OnOk result Q
-on_ok (Ok value) then holds = then holds
-on_ok (Err fault) then holds = tt
+pub on_ok : {T E P P' Q : Type 0} (result : Result T E) → (P → P' → Q) → OnOk result P → OnOk result P' → OnOk result Q
+on_ok (Ok value) then holds also = then holds also
+on_ok (Err fault) then holds also = tt
 
 pub on_err : {T E Q : Type 0} (result : Result T E) → Q → OnErr result Q
 on_err (Ok value) holds = tt

@@ -5,3 +5,4 @@ pub mod Composing
 pub mod Opened
 pub mod FoundAgain
 pub mod Ended
+pub mod ReportRows

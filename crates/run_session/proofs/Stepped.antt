@@ -9,7 +9,7 @@ use Rattle.disk_model.specs.Causes.{Rose, FaultyOne}
 use Rattle.map_model.specs.Cells.{Replica, Cell, Cells, absent, final, growing, unsure, waiting}
 use Rattle.map_model.specs.Steps.{Room, Reply as Answer, Step, CarriedOut, cell_after, success, start_write, push, finish, drop_write, write, read, delete, write_refusal, delete_refusal, half_deleted, content, done, no_block, is_writing, is_waiting, failed, memory, over, no_writer}
 use Rattle.pool_state.specs.declared.start_fault.StartFault.{StartFault}
-use Rattle.pool_state.specs.declared.start_fault.StartFault.TheVariants.{Exists as WasThere, None as WasAbsent, Writing as WasWriting, Waiting as WasWaiting, Unsure as WasUnsure, Full as IsFull, TooLong as IsTooLong, Failed as HasFailed, Memory as NoMemory}
+use Rattle.pool_state.specs.declared.start_fault.StartFault.TheVariants.{Exists as WasThere, None as WasAbsent, Writing as WasWriting, Waiting as WasWaiting, Unsure as WasUnsure, Full as IsFull, TooLong as IsTooLong, Worn as IsWorn, Failed as HasFailed, Memory as NoMemory}
 use Rattle.pool_state.specs.declared.deleting.DeleteFault.{DeleteFault}
 use Rattle.pool_state.specs.declared.deleting.DeleteFault.TheVariants.{None as NotThere, Writing as IsWrittenNow, Failed as RemovalFailed}
 use Rattle.pool_state.specs.Answers.{start_fault, delete_fault}
@@ -44,6 +44,7 @@ says_refusal trust metas WasWaiting = refl
 says_refusal trust metas WasUnsure = refl
 says_refusal trust metas (IsFull need free) = refl
 says_refusal trust metas (IsTooLong limit) = refl
+says_refusal trust metas IsWorn = refl
 says_refusal trust metas HasFailed = refl
 says_refusal trust metas NoMemory = refl
 
@@ -59,6 +60,7 @@ start_gives_nothing WasWaiting gives = gives
 start_gives_nothing WasUnsure gives = gives
 start_gives_nothing (IsFull need free) gives = gives
 start_gives_nothing (IsTooLong limit) gives = gives
+start_gives_nothing IsWorn gives = gives
 start_gives_nothing HasFailed gives = gives
 start_gives_nothing NoMemory gives = gives
 
@@ -75,6 +77,7 @@ is_failed WasWaiting is = absurd cc
 is_failed WasUnsure is = absurd cc
 is_failed (IsFull need free) is = absurd cc
 is_failed (IsTooLong limit) is = absurd cc
+is_failed IsWorn is = absurd cc
 is_failed HasFailed is = refl
 is_failed NoMemory is = absurd cc
 
@@ -86,6 +89,7 @@ is_memory WasWaiting is = absurd cc
 is_memory WasUnsure is = absurd cc
 is_memory (IsFull need free) is = absurd cc
 is_memory (IsTooLong limit) is = absurd cc
+is_memory IsWorn is = absurd cc
 is_memory HasFailed is = absurd cc
 is_memory NoMemory is = refl
 
@@ -98,6 +102,7 @@ begins_nothing stamp need WasWaiting = refl
 begins_nothing stamp need WasUnsure = refl
 begins_nothing stamp need (IsFull n free) = refl
 begins_nothing stamp need (IsTooLong limit) = refl
+begins_nothing stamp need IsWorn = refl
 begins_nothing stamp need HasFailed = refl
 begins_nothing stamp need NoMemory = refl
 
@@ -274,6 +279,7 @@ never_absent stamp len WasWaiting not_failed not_memory out = let bad : Rattle.m
 never_absent stamp len WasUnsure not_failed not_memory out = let bad : Rattle.map_model.specs.Steps.is_unsure ≡ Rattle.map_model.specs.Steps.done = out.0 in cc
 never_absent stamp len (IsFull need free) not_failed not_memory out = let bad : Rattle.map_model.specs.Steps.full need free ≡ Rattle.map_model.specs.Steps.done = out.0 in cc
 never_absent stamp len (IsTooLong limit) not_failed not_memory out = let bad : Rattle.map_model.specs.Steps.too_long limit ≡ Rattle.map_model.specs.Steps.done = out.0 in cc
+never_absent stamp len IsWorn not_failed not_memory out = let bad : Rattle.map_model.specs.Steps.worn ≡ Rattle.map_model.specs.Steps.done = out.0 in cc
 never_absent stamp len HasFailed not_failed not_memory out = not_failed refl
 never_absent stamp len NoMemory not_failed not_memory out = not_memory refl
 
@@ -308,6 +314,7 @@ write_unstarted room cell stamp bytes fault after is fits left step =
     unstarted stamp bytes WasUnsure after out = absurd (let bad : Rattle.map_model.specs.Steps.is_unsure ≡ Rattle.map_model.specs.Steps.done = out.0 in cc)
     unstarted stamp bytes (IsFull need free) after out = absurd (let bad : Rattle.map_model.specs.Steps.full need free ≡ Rattle.map_model.specs.Steps.done = out.0 in cc)
     unstarted stamp bytes (IsTooLong limit) after out = absurd (let bad : Rattle.map_model.specs.Steps.too_long limit ≡ Rattle.map_model.specs.Steps.done = out.0 in cc)
+    unstarted stamp bytes IsWorn after out = absurd (let bad : Rattle.map_model.specs.Steps.worn ≡ Rattle.map_model.specs.Steps.done = out.0 in cc)
     unstarted stamp bytes HasFailed after out = elim out [ inl same ↦ inl same | inr waits ↦ inr (inl waits) ]
     unstarted stamp bytes NoMemory after out = out
 
@@ -338,6 +345,7 @@ write_learns_nothing stamp bytes WasWaiting metas id cell waits = refl
 write_learns_nothing stamp bytes WasUnsure metas id cell waits = refl
 write_learns_nothing stamp bytes (IsFull need free) metas id cell waits = refl
 write_learns_nothing stamp bytes (IsTooLong limit) metas id cell waits = refl
+write_learns_nothing stamp bytes IsWorn metas id cell waits = refl
 write_learns_nothing stamp bytes HasFailed metas id cell waits = subst (λ c. LearnsBy metas id c metas) (sym (waits refl)) refl
 write_learns_nothing stamp bytes NoMemory metas id cell waits = refl
 

@@ -24,7 +24,8 @@ use Rattle.run_model.specs.Commands.{Trust, Says, FailsBy, begins_writer, IsCont
 use Rattle.pool_state.specs.Readers.{LooksForTwo}
 use Rattle.map_model.specs.Sound.{Metas, Knowledge, nothing, matching, exactly}
 use Rattle.pool_state.proofs.Changing.{stands_for_less}
-use Rattle.run_model.specs.Books.{RoomAsked, BookStep, BooksChange}
+use Rattle.pool_state.specs.Rooms.{Choosing}
+use Rattle.run_model.specs.Books.{RoomAsked, BookStep, Draws, BooksChange}
 use Rattle.run_model.specs.Carrying.{IsKnown, CarriesOut}
 use Rattle.run_session.specs.Standing.{NotGrowing, OpenWriter, Standing}
 
@@ -42,8 +43,8 @@ pub put_other : {X : Type 0} (id key : ℕ) (new old : X) → id ≢ key → (if
 put_other id key new old apart = rw (ne_eqb id key apart) refl
 
 -- where a session stands, nothing need be known of the meta files
-pub loose : {shares : List ℕ} {told : Option (List World)} {volumes : ℕ} {books : ℕ → BlockBooks} {writers : ℕ → Option Writer} {state : RunState} →
-    Standing shares told volumes books writers state → PoolStands told volumes books nothing state.cells
+pub loose : {choosing : Choosing} {told : Option (List World)} {volumes : ℕ} {books : ℕ → BlockBooks} {writers : ℕ → Option Writer} {state : RunState} →
+    Standing choosing told volumes books writers state → PoolStands told volumes books nothing state.cells
 loose standing = stands_for_less (λ id content replica fits. tt) standing.pool
 
 -- a writer of another block
@@ -74,16 +75,16 @@ keeps_open told told' books books' id cell numbers None honest same here = here
 keeps_open told told' books books' id cell numbers (Some w) honest same here = open_on told told' books books' id cell numbers w honest same here
 
 -- A TENURE ON ONE BLOCK: the others' writers stay
-pub goes_on : {shares shares' : List ℕ} {told told' : Option (List World)} {volumes volumes' : ℕ} {books books' : ℕ → BlockBooks} {writers writers' : ℕ → Option Writer} {state : RunState} →
-    shares' ≡ shares → Standing shares told volumes books writers state → (id : ℕ) (cell : Cell) {metas : Metas} (numbers : ℕ → Numbers) →
+pub goes_on : {choosing choosing' : Choosing} {told told' : Option (List World)} {volumes volumes' : ℕ} {books books' : ℕ → BlockBooks} {writers writers' : ℕ → Option Writer} {state : RunState} →
+    Standing choosing told volumes books writers state → (id : ℕ) (cell : Cell) {metas : Metas} (numbers : ℕ → Numbers) →
     PoolStands told' volumes' books' (exactly metas) (with_cell state.cells id cell) → (IsSome told' → IsSome told) →
     ((other : ℕ) → other ≢ id → books' other ≡ books other) → ((other : ℕ) → other ≢ id → writers' other ≡ writers other) →
     ((other : ℕ) → other ≢ id → numbers other ≡ state.writers other) →
     MatchOption (writers' id) (NotGrowing cell) (OpenWriter told' books' id cell (numbers id)) →
-    Standing shares' told' volumes' books' writers' (record { cells = with_cell state.cells id cell; metas = metas; writers = numbers; books = books'; shares = state.shares })
-goes_on {shares} {shares'} {told} {told'} {volumes} {volumes'} {books} {books'} {writers} {writers'} {state} same_shares standing id cell {metas} numbers pool honest books_stay writers_stay numbers_stay own = record {
+    Standing choosing' told' volumes' books' writers' (record { cells = with_cell state.cells id cell; metas = metas; writers = numbers; books = books'; choosing = choosing' })
+goes_on {choosing} {choosing'} {told} {told'} {volumes} {volumes'} {books} {books'} {writers} {writers'} {state} standing id cell {metas} numbers pool honest books_stay writers_stay numbers_stay own = record {
   pool = pool;
-  shared = standing.shared ∙ sym same_shares;
+  chooses_by = refl;
   said = λ other. refl;
   writer = λ other valid. elim (cases_eq other id) [
     | inl same ↦
@@ -98,12 +99,12 @@ goes_on {shares} {shares'} {told} {told'} {volumes} {volumes'} {books} {books'} 
 }
 
 -- where the same cells stand, and the same writers are open
-pub stays_on : {shares shares' : List ℕ} {told told' : Option (List World)} {volumes volumes' : ℕ} {books books' : ℕ → BlockBooks} {writers writers' : ℕ → Option Writer} {state : RunState} →
-    shares' ≡ shares → Standing shares told volumes books writers state → PoolStands told' volumes' books' (exactly state.metas) state.cells → (IsSome told' → IsSome told) →
-    ((id : ℕ) → books' id ≡ books id) → ((id : ℕ) → writers' id ≡ writers id) → Standing shares' told' volumes' books' writers' state
-stays_on {shares} {shares'} {told} {told'} {volumes} {volumes'} {books} {books'} {writers} {writers'} {state} same_shares standing pool honest books_stay writers_stay = record {
+pub stays_on : {choosing choosing' : Choosing} {told told' : Option (List World)} {volumes volumes' : ℕ} {books books' : ℕ → BlockBooks} {writers writers' : ℕ → Option Writer} {state : RunState} →
+    choosing' ≡ choosing → Standing choosing told volumes books writers state → PoolStands told' volumes' books' (exactly state.metas) state.cells → (IsSome told' → IsSome told) →
+    ((id : ℕ) → books' id ≡ books id) → ((id : ℕ) → writers' id ≡ writers id) → Standing choosing' told' volumes' books' writers' state
+stays_on {choosing} {choosing'} {told} {told'} {volumes} {volumes'} {books} {books'} {writers} {writers'} {state} same_choosing standing pool honest books_stay writers_stay = record {
   pool = pool;
-  shared = standing.shared ∙ sym same_shares;
+  chooses_by = standing.chooses_by ∙ sym same_choosing;
   said = λ id. standing.said id ∙ sym (books_stay id);
   writer = λ id valid.
       subst (λ w. MatchOption w (NotGrowing (state.cells id)) (OpenWriter told' books' id (state.cells id) (state.writers id))) (sym (writers_stay id))
@@ -241,49 +242,56 @@ crash_same cells Sound past = record { images = λ t image s. inl s; sound = λ 
 pub crash_only : {cells after : Cells} {Sound SoundNow : Cells → Type 0} {past : ℕ → Files → Type 0} → (Sound cells → SoundNow after) → CrashSafe cells after Sound SoundNow past past
 crash_only sound = record { images = λ t image s. inl s; sound = sound; sound_images = λ was t image s. inl s; whole = λ t image s. inl s }
 
+-- what a command does to the books, and to what is chosen by
+pub record Changes (id : ℕ) (command : Command) (answer : Answer) (cell : Cell) (vol : ℕ) (was now : Choosing) (old new : ℕ → BlockBooks) : Type 0 where
+  pub books : BooksChange id (BookStep command answer cell vol was.next_rev) old new
+  pub choosing : Draws command answer cell vol was now
+
 module _ {Faulty : ℕ → ℕ → Type 0} {told : Option (List World)} {old : RunState} {before after : Mark} {id : ℕ} {command : Command} {reply : Reply} {StandsFor : RunState → Type 0}
     {Sound SoundNow : Cells → Type 0} {past since : ℕ → Files → Type 0} where
   -- a command that leaves the state as it was
-  pub carried_same : (asked : (room : Room) × RoomAsked command old.shares old.books room) → StandsFor old → CrashSafe old.cells old.cells Sound SoundNow past since → (answer : Answer) → ((trust : Trust) → IsKnown (Sound old.cells) trust told → Says trust (old.metas id) answer reply) →
+  pub carried_same : (asked : (room : Room) × (vol : ℕ) × RoomAsked command old.choosing old.books room vol) → StandsFor old → CrashSafe old.cells old.cells Sound SoundNow past since → (answer : Answer) → ((trust : Trust) → IsKnown (Sound old.cells) trust told → Says trust (old.metas id) answer reply) →
       Step asked.0 (old.cells id) command answer (old.cells id) → (answer ≡ failed → FailsBy Faulty before after (old.writers id) (old.cells id) command (old.cells id)) →
       (answer ≡ memory → old.cells id ≡ waiting → before.next_number < after.next_number) → begins_writer command answer ≡ false → MetasAfter command answer old.metas id (old.cells id) old.metas → (IsContent answer → LooksForTwo before after) →
-      BookStep command answer (old.cells id) (old.books id) (old.books id) → CarriesOut Faulty told old before id command reply after StandsFor Sound SoundNow past since
-  carried_same asked stands crash answer says step fault lack begins metas looked books = record {
+      BookStep command answer (old.cells id) asked.1 old.choosing.next_rev (old.books id) (old.books id) → Draws command answer (old.cells id) asked.1 old.choosing old.choosing →
+      CarriesOut Faulty told old before id command reply after StandsFor Sound SoundNow past since
+  carried_same asked stands crash answer says step fault lack begins metas looked books draws = record {
     new = old;
     stands = stands;
     step = λ trust known. record {
       answer = answer;
       says = says trust known;
       room = asked.0;
-      asked = asked.1;
-      shares = refl;
+      vol = asked.1;
+      asked = asked.2;
       cells = record { own = step; others = λ other apart. refl };
       fault = fault;
       lack = lack;
       looked = looked;
       metas = metas;
       writers = λ other. begins_none (begins_writer command answer) id other (given before after) (old.writers other) begins;
+      choosing = draws;
       books = record { own = books; others = λ other apart. refl };
     };
     crash = crash;
   }
 
   -- a command that changes its block's cell
-  pub carried : (asked : (room : Room) × RoomAsked command old.shares old.books room) → (cell : Cell) (metas : Metas) (numbers : ℕ → Numbers) (books : ℕ → BlockBooks) →
-      StandsFor (record { cells = with_cell old.cells id cell; metas = metas; writers = numbers; books = books; shares = old.shares }) →
+  pub carried : (asked : (room : Room) × (vol : ℕ) × RoomAsked command old.choosing old.books room vol) → (cell : Cell) (metas : Metas) (numbers : ℕ → Numbers) (books : ℕ → BlockBooks) (choosing : Choosing) →
+      StandsFor (record { cells = with_cell old.cells id cell; metas = metas; writers = numbers; books = books; choosing = choosing }) →
       CrashSafe old.cells (with_cell old.cells id cell) Sound SoundNow past since → (answer : Answer) → ((trust : Trust) → IsKnown (Sound old.cells) trust told → Says trust (old.metas id) answer reply) → Step asked.0 (old.cells id) command answer cell →
       (answer ≡ failed → FailsBy Faulty before after (old.writers id) (old.cells id) command cell) → (answer ≡ memory → cell ≡ waiting → before.next_number < after.next_number) →
       ((other : ℕ) → numbers other ≡ (if begins_writer command answer && other == id then given before after else old.writers other)) → MetasAfter command answer old.metas id cell metas → (IsContent answer → LooksForTwo before after) →
-      BooksChange id (BookStep command answer cell) old.books books → CarriesOut Faulty told old before id command reply after StandsFor Sound SoundNow past since
-  carried asked cell metas numbers books stands crash answer says step fault lack begins learns looked change = record {
-    new = record { cells = with_cell old.cells id cell; metas = metas; writers = numbers; books = books; shares = old.shares };
+      Changes id command answer cell asked.1 old.choosing choosing old.books books → CarriesOut Faulty told old before id command reply after StandsFor Sound SoundNow past since
+  carried asked cell metas numbers books choosing stands crash answer says step fault lack begins learns looked change = record {
+    new = record { cells = with_cell old.cells id cell; metas = metas; writers = numbers; books = books; choosing = choosing };
     stands = stands;
     step = λ trust known. record {
       answer = answer;
       says = says trust known;
       room = asked.0;
-      asked = asked.1;
-      shares = refl;
+      vol = asked.1;
+      asked = asked.2;
       cells = record {
         own = subst (Step asked.0 (old.cells id) command answer) (sym (with_cell-here old.cells id cell)) step;
         others = λ other apart. with_cell-other old.cells id cell other apart;
@@ -293,27 +301,31 @@ module _ {Faulty : ℕ → ℕ → Type 0} {told : Option (List World)} {old : R
       looked = looked;
       metas = subst (λ c. MetasAfter command answer old.metas id c metas) (sym (with_cell-here old.cells id cell)) learns;
       writers = begins;
-      books = record { own = subst (λ c. BookStep command answer c (old.books id) (books id)) (sym (with_cell-here old.cells id cell)) change.own; others = change.others };
+      choosing = subst (λ c. Draws command answer c asked.1 old.choosing choosing) (sym (with_cell-here old.cells id cell)) change.choosing;
+      books = record {
+        own = subst (λ c. BookStep command answer c asked.1 old.choosing.next_rev (old.books id) (books id)) (sym (with_cell-here old.cells id cell)) change.books.own;
+        others = change.books.others;
+      };
     };
     crash = crash;
   }
 
   -- a command that begins no writer, and after which more is known of meta files
-  pub carried_learning : (asked : (room : Room) × RoomAsked command old.shares old.books room) → (cell : Cell) (metas : Metas) (books : ℕ → BlockBooks) →
-      StandsFor (record { cells = with_cell old.cells id cell; metas = metas; writers = old.writers; books = books; shares = old.shares }) →
+  pub carried_learning : (asked : (room : Room) × (vol : ℕ) × RoomAsked command old.choosing old.books room vol) → (cell : Cell) (metas : Metas) (books : ℕ → BlockBooks) (choosing : Choosing) →
+      StandsFor (record { cells = with_cell old.cells id cell; metas = metas; writers = old.writers; books = books; choosing = choosing }) →
       CrashSafe old.cells (with_cell old.cells id cell) Sound SoundNow past since → (answer : Answer) → ((trust : Trust) → IsKnown (Sound old.cells) trust told → Says trust (old.metas id) answer reply) → Step asked.0 (old.cells id) command answer cell →
       (answer ≡ failed → FailsBy Faulty before after (old.writers id) (old.cells id) command cell) → (answer ≡ memory → cell ≡ waiting → before.next_number < after.next_number) →
       begins_writer command answer ≡ false → MetasAfter command answer old.metas id cell metas → (IsContent answer → LooksForTwo before after) →
-      BooksChange id (BookStep command answer cell) old.books books → CarriesOut Faulty told old before id command reply after StandsFor Sound SoundNow past since
-  carried_learning asked cell metas books stands crash answer says step fault lack begins learns looked change =
-      carried asked cell metas old.writers books stands crash answer says step fault lack
+      Changes id command answer cell asked.1 old.choosing choosing old.books books → CarriesOut Faulty told old before id command reply after StandsFor Sound SoundNow past since
+  carried_learning asked cell metas books choosing stands crash answer says step fault lack begins learns looked change =
+      carried asked cell metas old.writers books choosing stands crash answer says step fault lack
       (λ other. begins_none (begins_writer command answer) id other (given before after) (old.writers other) begins) learns looked change
 
   -- a command that begins no writer
-  pub carried_on : (asked : (room : Room) × RoomAsked command old.shares old.books room) → (cell : Cell) (books : ℕ → BlockBooks) →
-      StandsFor (record { cells = with_cell old.cells id cell; metas = old.metas; writers = old.writers; books = books; shares = old.shares }) →
+  pub carried_on : (asked : (room : Room) × (vol : ℕ) × RoomAsked command old.choosing old.books room vol) → (cell : Cell) (books : ℕ → BlockBooks) (choosing : Choosing) →
+      StandsFor (record { cells = with_cell old.cells id cell; metas = old.metas; writers = old.writers; books = books; choosing = choosing }) →
       CrashSafe old.cells (with_cell old.cells id cell) Sound SoundNow past since → (answer : Answer) → ((trust : Trust) → IsKnown (Sound old.cells) trust told → Says trust (old.metas id) answer reply) → Step asked.0 (old.cells id) command answer cell →
       (answer ≡ failed → FailsBy Faulty before after (old.writers id) (old.cells id) command cell) → (answer ≡ memory → cell ≡ waiting → before.next_number < after.next_number) →
       begins_writer command answer ≡ false → MetasAfter command answer old.metas id cell old.metas → (IsContent answer → LooksForTwo before after) →
-      BooksChange id (BookStep command answer cell) old.books books → CarriesOut Faulty told old before id command reply after StandsFor Sound SoundNow past since
+      Changes id command answer cell asked.1 old.choosing choosing old.books books → CarriesOut Faulty told old before id command reply after StandsFor Sound SoundNow past since
   carried_on asked cell = carried_learning asked cell old.metas

@@ -13,6 +13,7 @@ use Rattle.map_model.specs.Cells.{Cell, Cells, absent, final, growing, unsure, w
 use Rattle.map_model.specs.Steps.{Command}
 use Rattle.map_model.specs.Stands.{BlockBooks}
 use Rattle.pool_state.specs.Books.{block_books}
+use Rattle.pool_state.specs.Rooms.{Choosing, choosing_of}
 use Rattle.pool_state.specs.Stands.{PoolStands, Stands}
 use Rattle.pair_draft.specs.Writers.{Writer, writer_of}
 use Rattle.pool_state.specs.Writers.{WriterStands}
@@ -41,10 +42,10 @@ pub record OpenWriter (told : Option (List World)) (books : ℕ → BlockBooks) 
   pub meta_given : GivenBetween numbers.first numbers.last stands.meta_number
 
 -- disks, books and open writers stand for the state of a run: its cells, of which these are the meta files, and what it
--- says of the books and the shares
-pub record Standing (shares : List ℕ) (told : Option (List World)) (volumes : ℕ) (books : ℕ → BlockBooks) (writers : ℕ → Option Writer) (state : RunState) : Type 0 where
+-- says of the books and of what is chosen by
+pub record Standing (choosing : Choosing) (told : Option (List World)) (volumes : ℕ) (books : ℕ → BlockBooks) (writers : ℕ → Option Writer) (state : RunState) : Type 0 where
   pub pool : PoolStands told volumes books (exactly state.metas) state.cells
-  pub shared : state.shares ≡ shares
+  pub chooses_by : state.choosing ≡ choosing
   pub said : (id : ℕ) → state.books id ≡ books id
   pub writer : (id : ℕ) → IsBlockId id → MatchOption (writers id) (NotGrowing (state.cells id)) (OpenWriter told books id (state.cells id) (state.writers id))
 
@@ -60,7 +61,7 @@ module _ {D S T R : Type 0} {g : Ghosts D S T R} {d : drafts.Ghosts T S} {s : se
   -- a session stands for the state of a run
   abbrev pub SessionStands : Session D S T R g d s r → RunState → Type 0
   SessionStands session state =
-      Standing session.pool.shares.items (g.worlds session.pool.disks) (g.volume_count session.pool.disks) (block_books session.pool.map) (open_writer session) state
+      Standing (choosing_of session.pool) (g.worlds session.pool.disks) (g.volume_count session.pool.disks) (block_books session.pool.map) (open_writer session) state
 
   -- a session stands for some state of a run
   abbrev pub SessionStandsForSome : Session D S T R g d s r → Type 0

@@ -10,6 +10,7 @@ mod pushing;
 mod reading;
 mod refusals;
 mod reopening;
+mod reporting;
 mod session;
 mod starting;
 mod verdicts;

@@ -18,6 +18,7 @@ pub fn refusal_of(fault: StartFault) -> Reply
         StartFault::Unsure => Reply::Unsure,
         StartFault::Full { need, free } => Reply::Full { need, free },
         StartFault::TooLong { limit } => Reply::TooLong { limit },
+        StartFault::Worn => Reply::Worn,
         StartFault::Failed => Reply::Failed,
         StartFault::Memory => Reply::Memory,
     }

@@ -22,7 +22,6 @@ impl<D: PoolDisks> Session<D> {
     /// its disks are of use.
     pub fn reopen(&mut self, alloc: Global) -> Result<(), ReopenFault>
         requires stands { SessionStandsForSome self.old }
-        requires one_volume { D.volume_count self.old.pool.disks ≡ 1 }
         ensures ok { (state : RunState) → SessionStands self.old state →
             OnOk result (SessionCarriesLine state Reopen Done self.old self.new) }
         ensures err { (state : RunState) → SessionStands self.old state →

@@ -1,10 +1,10 @@
 use Rattle.std.proofs.Common.{◌≡◌, ◌-◌, inl, inr, None, refl, sym, ◌∙◌, ap, subst, option_map}
-use Rattle.std.specs.Vec.{vec_items}
 use Rattle.std.specs.Prelude.{MatchOption, IsSome}
 use Rattle.map_model.specs.Cells.{growing}
 use Rattle.map_model.specs.Steps.{Step, finish, done, failed, memory, no_writer}
 use Rattle.pool_state.proofs.AnyRoom.{any_room}
 use Rattle.pool_state.specs.Books.{block_books}
+use Rattle.pool_state.specs.Rooms.{choosing_of}
 use Rattle.pool_state.specs.BookSteps.{in_state, with_replica, given_up}
 use Rattle.map_model.specs.Stands.{in_doubt}
 use Rattle.pair_draft.specs.Writers.{writer_of}
@@ -28,14 +28,14 @@ returns-in-Err-clause-step g c state standing =
     let same = stays_on refl standing standing.pool (λ t. t) (λ other. refl) (seen_same f _ _ c.in-Err.ensures.same) in
     elim c.in-Err.ensures.refused [
       | inl absent ↦
-          carried_same (any_room, tt) same (crash_same _ _ _) no_writer (λ trust known. absent.0)
-          (no_finish (state.cells id) (no_writer_of_block _ _ _ (ap (option_map f) absent.1) (standing.writer id c.take.ensures.valid))) (λ e. absurd cc) (λ e w. absurd cc) refl refl (λ no. absurd no) refl
+          carried_same (any_room, 1, tt) same (crash_same _ _ _) no_writer (λ trust known. absent.0)
+          (no_finish (state.cells id) (no_writer_of_block _ _ _ (ap (option_map f) absent.1) (standing.writer id c.take.ensures.valid))) (λ e. absurd cc) (λ e w. absurd cc) refl refl (λ no. absurd no) refl refl
       | inr wanting ↦
           let some = seen_some _ wanting.1 in
           let at = writer_of_block _ _ _ (f some.0) (ap (option_map f) some.1) (standing.writer id c.take.ensures.valid) in
-          carried_same (any_room, tt) same (crash_same _ _ _) memory (λ trust known. wanting.0)
+          carried_same (any_room, 1, tt) same (crash_same _ _ _) memory (λ trust known. wanting.0)
           (subst (λ x. Step any_room x finish memory x) (sym at.grows) (memory_finish some.0.stamp (some.0.reserved - some.0.len) at.bytes))
-          (λ e. absurd cc) (λ e w. absurd (grows_not (state.cells id) some.0.stamp at.bytes (some.0.reserved - some.0.len) at.grows w)) refl refl (λ no. absurd no) refl
+          (λ e. absurd cc) (λ e w. absurd (grows_not (state.cells id) some.0.stamp at.bytes (some.0.reserved - some.0.len) at.grows w)) refl refl (λ no. absurd no) refl refl
     ]
 
 pub seal-requires : goal.seal-requires
@@ -72,14 +72,17 @@ returns-in-Ok-finish-clause-step g c state standing =
     let both = at_block key there in
     let t = both.0 in
     let seen = took f id _ _ c.in-Ok.ensures.taken in
-    carried_learning (any_room, tt) t.to.cell (with_meta state.metas pair.id pair.stamp (meta_of belongs)) (block_books c.finish.new.self.map)
-    (goes_on (ap vec_items c.finish.ensures.shares) standing id t.to.cell state.writers (t.to.stands _ standing.pool) c.finish.ensures.goes_on.honest.1 (λ other apart. c.finish.ensures.others other (λ e. apart (e ∙ key))) seen.0 (λ other apart. refl)
+    carried_learning (any_room, 1, tt) t.to.cell (with_meta state.metas pair.id pair.stamp (meta_of belongs)) (block_books c.finish.new.self.map) (choosing_of c.finish.new.self)
+    (goes_on standing id t.to.cell state.writers (t.to.stands _ standing.pool) c.finish.ensures.goes_on.honest.1 (λ other apart. c.finish.ensures.others other (λ e. apart (e ∙ key))) seen.0 (λ other apart. refl)
     (subst (λ o. MatchOption o (NotGrowing t.to.cell) (OpenWriter (g.D.PoolDisks.worlds c.finish.new.self.disks) (block_books c.finish.new.self.map) id t.to.cell (state.writers id))) (sym seen.1)
     (subst NotGrowing (sym (t.to.says.1 refl)) tt)))
     (crash_takes both) done (λ trust known. refl) t.to.step (λ e. absurd cc) (λ e x. absurd cc) refl
     (learns_final state.metas id pair.id pair.stamp at.bytes (meta_of belongs) key belongs.sealed.of_bytes.matches t.to.cell (t.to.says.1 refl)) (λ no. absurd no)
-    (books_change standing id _ (finished_books pair.stamp pair.len at.bytes t.to.cell _ _ (t.to.says.1 refl) belongs.sealed.len
-    (subst (λ n. block_books c.finish.new.self.map n ≡ with_replica pair.len (block_books c.args.self.now.pool.map n)) key c.in-Ok-finish.ensures.books)) (λ other apart. c.finish.ensures.others other (λ e. apart (e ∙ key))))
+    (books_change standing id _ (
+      finished_books pair.stamp pair.len at.bytes t.to.cell _ _ (t.to.says.1 refl) belongs.sealed.len
+          (subst (λ n. block_books c.finish.new.self.map n ≡ with_replica pair.len (block_books c.args.self.now.pool.map n)) key c.in-Ok-finish.ensures.books),
+      c.finish.ensures.choosing,
+    ) (λ other apart. c.finish.ensures.others other (λ e. apart (e ∙ key))))
 
 pub returns-in-Err-finish-clause-step : goal.returns-in-Err-finish-clause-step
 returns-in-Err-finish-clause-step g c state standing =
@@ -97,15 +100,18 @@ returns-in-Err-finish-clause-step g c state standing =
     let both = at_block key there in
     let t = both.0 in
     let seen = took f id _ _ c.in-Ok.ensures.taken in
-    carried_learning (any_room, tt) t.to.cell (with_meta state.metas pair.id pair.stamp (meta_of belongs)) (block_books c.finish.new.self.map)
-    (goes_on (ap vec_items c.finish.ensures.shares) standing id t.to.cell state.writers (t.to.stands _ standing.pool) c.finish.ensures.goes_on.honest.1 (λ other apart. c.finish.ensures.others other (λ e. apart (e ∙ key))) seen.0 (λ other apart. refl)
+    carried_learning (any_room, 1, tt) t.to.cell (with_meta state.metas pair.id pair.stamp (meta_of belongs)) (block_books c.finish.new.self.map) (choosing_of c.finish.new.self)
+    (goes_on standing id t.to.cell state.writers (t.to.stands _ standing.pool) c.finish.ensures.goes_on.honest.1 (λ other apart. c.finish.ensures.others other (λ e. apart (e ∙ key))) seen.0 (λ other apart. refl)
     (subst (λ o. MatchOption o (NotGrowing t.to.cell) (OpenWriter (g.D.PoolDisks.worlds c.finish.new.self.disks) (block_books c.finish.new.self.map) id t.to.cell (state.writers id))) (sym seen.1)
     (subst NotGrowing (sym (t.to.says.0 refl)) tt)))
     (crash_takes both) failed (λ trust known. refl) t.to.step
     (λ e. subst (FailsBy (faulty_of g.D.Draft.Draft g.D.Reader.Reader) (mark_of g.D.PoolDisks c.args.self.now.pool.disks) (mark_of g.D.PoolDisks c.finish.new.self.disks) (state.writers id) (state.cells id) finish) (sym (t.to.says.0 refl)) (c.in-Err-finish.ensures.failed refl)) (λ e x. absurd cc) refl
     (learns_doubt state.metas id pair.id pair.stamp at.bytes (meta_of belongs) key belongs.sealed.of_bytes.matches t.to.cell (t.to.says.0 refl)) (λ no. absurd no)
-    (books_change standing id _ (doubted_books _ _ t.to.cell _ _ (t.to.says.0 refl)
-    (subst (λ n. block_books c.finish.new.self.map n ≡ in_state (in_doubt None) (block_books c.args.self.now.pool.map n)) key c.in-Err-finish.ensures.books)) (λ other apart. c.finish.ensures.others other (λ e. apart (e ∙ key))))
+    (books_change standing id _ (
+      doubted_books _ _ t.to.cell _ _ (t.to.says.0 refl)
+          (subst (λ n. block_books c.finish.new.self.map n ≡ in_state (in_doubt None) (block_books c.args.self.now.pool.map n)) key c.in-Err-finish.ensures.books),
+      c.finish.ensures.choosing,
+    ) (λ other apart. c.finish.ensures.others other (λ e. apart (e ∙ key))))
 
 pub returns-in-Err-Memory-default-clause-step : goal.returns-in-Err-Memory-default-clause-step
 returns-in-Err-Memory-default-clause-step g c state standing =
@@ -120,12 +126,12 @@ returns-in-Err-Memory-default-clause-step g c state standing =
     let same = e.ensures.same e.field-0-0-is in
     let open_still = subst (OpenWriter told books id (state.cells id) (state.writers id)) (sym same) at in
     let seen = put_back f id new.id _ _ _ new open_still.of c.in-Ok.ensures.taken c.put.ensures.put in
-    carried_on (any_room, tt) (state.cells id) books
-    (goes_on refl standing id (state.cells id) state.writers (subst (PoolStands told (g.D.PoolDisks.volume_count c.args.self.now.pool.disks) books (exactly state.metas)) (sym (with_cell-same state.cells id)) standing.pool)
+    carried_on (any_room, 1, tt) (state.cells id) books (choosing_of c.args.self.now.pool)
+    (goes_on standing id (state.cells id) state.writers (subst (PoolStands told (g.D.PoolDisks.volume_count c.args.self.now.pool.disks) books (exactly state.metas)) (sym (with_cell-same state.cells id)) standing.pool)
     (λ x. x) (λ other apart. refl) seen.0 (λ other apart. refl)
     (subst (λ o. MatchOption o (NotGrowing (state.cells id)) (OpenWriter told books id (state.cells id) (state.writers id))) (sym seen.1) open_still))
     (crash_only (λ sound. subst (PoolStands told (g.D.PoolDisks.volume_count c.args.self.now.pool.disks) books matching) (sym (with_cell-same state.cells id)) sound)) memory (λ trust known. refl) (subst (λ x. Step any_room x finish memory x) (sym at.grows) (memory_finish w.stamp (w.reserved - w.len) at.bytes))
-    (λ bad. absurd cc) (λ same waits. absurd (grows_not (state.cells id) w.stamp at.bytes (w.reserved - w.len) at.grows waits)) refl refl (λ no. absurd no) (books_change standing id books refl (λ other apart. refl))
+    (λ bad. absurd cc) (λ same waits. absurd (grows_not (state.cells id) w.stamp at.bytes (w.reserved - w.len) at.grows waits)) refl refl (λ no. absurd no) (books_change standing id books (refl, refl) (λ other apart. refl))
 
 pub returns-in-Err-Failed-default-clause-step : goal.returns-in-Err-Failed-default-clause-step
 returns-in-Err-Failed-default-clause-step g c state standing =
@@ -139,13 +145,16 @@ returns-in-Err-Failed-default-clause-step g c state standing =
     let both = at_block key there in
     let t = both.0 in
     let seen = took f id _ _ c.in-Ok.ensures.taken in
-    carried_on (any_room, tt) t.to.cell (block_books c.fail_write.new.self.map)
-    (goes_on (ap vec_items c.fail_write.ensures.shares) standing id t.to.cell state.writers (t.to.stands _ standing.pool) (λ x. subst IsSome (ap g.D.PoolDisks.worlds c.fail_write.ensures.disks) x) (λ other apart. c.fail_write.ensures.others other (λ same. apart (same ∙ key))) seen.0 (λ other apart. refl)
+    carried_on (any_room, 1, tt) t.to.cell (block_books c.fail_write.new.self.map) (choosing_of c.fail_write.new.self)
+    (goes_on standing id t.to.cell state.writers (t.to.stands _ standing.pool) (λ x. subst IsSome (ap g.D.PoolDisks.worlds c.fail_write.ensures.disks) x) (λ other apart. c.fail_write.ensures.others other (λ same. apart (same ∙ key))) seen.0 (λ other apart. refl)
     (subst (λ o. MatchOption o (NotGrowing t.to.cell) (OpenWriter (g.D.PoolDisks.worlds c.fail_write.new.self.disks) (block_books c.fail_write.new.self.map) id t.to.cell (state.writers id))) (sym seen.1)
     (subst NotGrowing (sym t.to.says) tt)))
     (crash_takes both) failed (λ trust known. refl) t.to.step
     (λ same. subst (FailsBy (faulty_of g.D.Draft.Draft g.D.Reader.Reader) (mark_of g.D.PoolDisks c.args.self.now.pool.disks) (mark_of g.D.PoolDisks c.fail_write.new.self.disks) (state.writers id) (state.cells id) finish) (sym t.to.says)
     (inl (faulty_writer g.D.Draft.Draft.place g.D.Draft.Draft.faults (f w) (state.writers id) _ _ _ _ _ _ at.stands.block at.stands.meta at.block_given at.meta_given (e.ensures.failed e.field-0-0-is).1)))
     (λ bad x. absurd cc) refl (learns_waiting state.metas id t.to.cell t.to.says) (λ no. absurd no)
-    (books_change standing id _ (given_up_books t.to.cell _ _ t.to.says
-    (subst (λ n. block_books c.fail_write.new.self.map n ≡ given_up (block_books c.args.self.now.pool.map n)) key c.fail_write.ensures.books)) (λ other apart. c.fail_write.ensures.others other (λ same. apart (same ∙ key))))
+    (books_change standing id _ (
+      given_up_books t.to.cell _ _ t.to.says
+          (subst (λ n. block_books c.fail_write.new.self.map n ≡ given_up (block_books c.args.self.now.pool.map n)) key c.fail_write.ensures.books),
+      c.fail_write.ensures.choosing,
+    ) (λ other apart. c.fail_write.ensures.others other (λ same. apart (same ∙ key))))
