@@ -8,7 +8,7 @@ use Rattle.line_io.proofs.Appending.{appends_nothing}
 use Rattle.script_lang.specs.declared.LineFault.{LineFault}
 use Rattle.script_lang.specs.declared.LineFault.TheVariants.{Bad, Memory}
 use Rattle.script_lang.specs.declared.Line.{Line}
-use Rattle.script_lang.specs.declared.Line.TheVariants.{Blank, Reopen}
+use Rattle.script_lang.specs.declared.Line.TheVariants.{Blank, Reopen, Report}
 use Rattle.script_lang.specs.declared.reply.Reply.{Reply}
 use Rattle.script_lang.specs.Reply.{reply_line}
 use Rattle.script_lang.specs.Script.{line_of}
@@ -37,9 +37,10 @@ not_blank Blank apart = absurd (apart refl)
 not_blank line apart = refl
 
 -- a command on a block
-pub on_block : (line : Line) → is_carried line ≡ true → (line ≡ Reopen → ⊥) → is_on_block line ≡ true
-on_block Reopen is apart = absurd (apart refl)
-on_block line is apart = is
+pub on_block : (line : Line) → is_carried line ≡ true → (line ≡ Reopen → ⊥) → (line ≡ Report → ⊥) → is_on_block line ≡ true
+on_block Reopen is apart no_report = absurd (apart refl)
+on_block Report is apart no_report = absurd (no_report refl)
+on_block line is apart no_report = is
 
 -- a command stands before those behind it
 command_says : (number : ℕ) (line : Line) → is_blank line ≡ false → is_carried line ≡ true → (rest : Script) → goes_on number line rest ≡ prepend (line ∷ []) rest
@@ -55,6 +56,10 @@ told_bad text fault column is h = elim h [ inl e ↦ absurd cc | inr e ↦ sym e
 -- where no line was carried out
 pub no_lines : {before : Mark} {state : RunState} {Sound : Cells → Type 0} {past : ℕ → Files → Type 0} → AllowedFrom past before state → LinesCrashSafe before state [] Sound Sound past past
 no_lines now = record { passes = passed_none _ _; each = now; sound = λ sound. sound; sound_images = λ sound t image s. inl s }
+
+-- where nothing happened
+pub stays_same : {cells : Cells} {Sound : Cells → Type 0} {past : ℕ → Files → Type 0} → StaysCrashSafe cells Sound past past
+stays_same = record { images = λ t image s. inl s; sound_images = λ sound t image s. inl s; whole = λ t image s. inl s }
 
 module _ {Faulty : ℕ → ℕ → Type 0} {told : Option (List World)} {state : RunState} {before : Mark} {StandsFor : RunState → Type 0} {Sound : Cells → Type 0} {past : ℕ → Files → Type 0}
     (stands : StandsFor state) (now : AllowedFrom past before state) where

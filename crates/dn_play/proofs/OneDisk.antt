@@ -1,6 +1,6 @@
--- Words that are carried out name one pool and one volume.
+-- Words that are carried out name one pool.
 use Rattle.std.proofs.Common.{◌≡◌, ℕ, ◌≤◌, ◌&&◌, ◌==◌, nat_lt, nat_le, if◌then◌else◌, Bool, true, false, List, [], ◌∷◌, ◌++◌, length, All, map, Option, Some, None, option_and_then, refl, sym, ap, ◌∙◌, subst, arith}
-use Rattle.std.proofs.lemmas.Bool.{and_parts, or_parts, leb-true, ltb-false, eqb-true}
+use Rattle.std.proofs.lemmas.Bool.{and_parts, leb-true, ltb-false, eqb-true}
 use Rattle.std.proofs.lemmas.Option.{same_Some}
 use Rattle.std.proofs.lemmas.List.{length-map}
 use Rattle.std.proofs.lemmas.List.Splits.{length-slice_split}
@@ -60,51 +60,41 @@ names_some (pools ∷ node ∷ volumes) said is = first (pools_of pools) (node_n
     first (Some ps) (Some m) (Some vs) one two same =
         subst NamesSome (same_Some _ _ same) (some_pools pools ps one, some_volumes volumes vs two)
 
--- the only disk, of one volume
-pub record OneDisk {D : Type 0} (volume_count : D → ℕ) (disks : List D) : Type 0 where
+-- the only disk, with so many volumes
+pub record OneDisk {D : Type 0} (volume_count : D → ℕ) (volumes : ℕ) (disks : List D) : Type 0 where
   pub disk : D
   pub only : disks ≡ disk ∷ []
-  pub one_volume : volume_count disk ≡ 1
+  pub has : volume_count disk ≡ volumes
+  pub some : 1 ≤ volumes
 
 module _ {D : Type 0} (volume_count : D → ℕ) where
-  of_list : (volumes : ℕ) (disks : List D) → length disks ≡ 1 → list_all (λ d. volume_count d == volumes) disks ≡ true → volumes ≡ 1 → OneDisk volume_count disks
-  of_list volumes [] e all one = absurd (omega (arith, e))
-  of_list volumes (d ∷ []) e all one = record { disk = d; only = refl; one_volume = eqb-true (volume_count d) volumes (and_parts (volume_count d == volumes) true all).0 ∙ one }
-  of_list volumes (d ∷ f ∷ more) e all one = absurd (omega (arith, e))
+  of_list : (volumes : ℕ) (disks : List D) → length disks ≡ 1 → list_all (λ d. volume_count d == volumes) disks ≡ true → 1 ≤ volumes → OneDisk volume_count volumes disks
+  of_list volumes [] e all some = absurd (omega (arith, e))
+  of_list volumes (d ∷ []) e all some =
+      record { disk = d; only = refl; has = eqb-true (volume_count d) volumes (and_parts (volume_count d == volumes) true all).0; some = some }
+  of_list volumes (d ∷ f ∷ more) e all some = absurd (omega (arith, e))
 
-  one_said : (said : NodeSaid) → NamesSome said → names_several said ≡ false → length said.volumes ≡ 1
-  one_said said some one =
-      let apart = or_parts (nat_lt 1 (length said.pools)) (nat_lt 1 (length said.volumes)) one in
-      let few_volumes = ltb-false 1 (length said.volumes) apart.1 in
-      omega (arith, few_volumes, some.1)
-
-  of_said : (disks : List D) (said : NodeSaid) → NamesSome said → fit_disks volume_count disks said ≡ true → names_several said ≡ false → OneDisk volume_count disks
+  of_said : (disks : List D) (said : NodeSaid) → NamesSome said → fit_disks volume_count disks said ≡ true → names_several said ≡ false → OneDisk volume_count (length said.volumes) disks
   of_said disks said some fit one =
       let parts = and_parts (length said.pools == length disks) (list_all (λ d. volume_count d == length said.volumes) disks) fit in
-      let apart = or_parts (nat_lt 1 (length said.pools)) (nat_lt 1 (length said.volumes)) one in
       let same = eqb-true (length said.pools) (length disks) parts.0 in
-      let few_pools = ltb-false 1 (length said.pools) apart.0 in
+      let few_pools = ltb-false 1 (length said.pools) one in
       let one_pool : length disks ≡ 1 = omega (arith, same, few_pools, some.0) in
-      of_list (length said.volumes) disks one_pool parts.1 (one_said said some one)
+      of_list (length said.volumes) disks one_pool parts.1 some.1
 
-  pub one_disk : (words : List (List ℕ)) (disks : List D) → words_fit volume_count words disks ≡ true → words_are_later words ≡ false → OneDisk volume_count disks
+  -- as many volumes as the words say shares
+  pub one_disk : (words : List (List ℕ)) (disks : List D) → words_fit volume_count words disks ≡ true → words_are_later words ≡ false → OneDisk volume_count (length (shares_in words)) disks
   one_disk words disks fit later = by_cases (node_of words) refl fit later
     where
-      by_cases : (said : Option NodeSaid) → node_of words ≡ said → option_map_or (fit_disks volume_count disks) said false ≡ true → option_map_or names_several said false ≡ false → OneDisk volume_count disks
+      by_cases : (said : Option NodeSaid) → node_of words ≡ said → option_map_or (fit_disks volume_count disks) said false ≡ true → option_map_or names_several said false ≡ false →
+          OneDisk volume_count (length (option_map_or shares_said said [])) disks
       by_cases None is fits one = absurd (cc fits)
-      by_cases (Some said) is fits one = of_said disks said (names_some words said is) fits one
-
-  -- the words say one share
-  pub one_share : (words : List (List ℕ)) (disks : List D) → words_fit volume_count words disks ≡ true → words_are_later words ≡ false → length (shares_in words) ≡ 1
-  one_share words disks fit later = by_cases (node_of words) refl fit later
-    where
-      by_cases : (said : Option NodeSaid) → node_of words ≡ said → option_map_or (fit_disks volume_count disks) said false ≡ true → option_map_or names_several said false ≡ false → length (option_map_or shares_said said []) ≡ 1
-      by_cases None is fits one = absurd (cc fits)
-      by_cases (Some said) is fits one = length-map said.volumes (λ volume. volume.share) ∙ one_said said (names_some words said is) one
+      by_cases (Some said) is fits one =
+          subst (λ n. OneDisk volume_count n disks) (sym (length-map said.volumes (λ volume. volume.share))) (of_said disks said (names_some words said is) fits one)
 
   -- the same of the disks as they were lent
-  pub one_disk_lent : (words : List (List ℕ)) (lent disks : List D) → lent ≡ disks → words_fit volume_count words lent ≡ true → words_are_later words ≡ false → OneDisk volume_count disks
-  one_disk_lent words lent disks is fit later = subst (OneDisk volume_count) is (one_disk words lent fit later)
+  pub one_disk_lent : (words : List (List ℕ)) (lent disks : List D) → lent ≡ disks → words_fit volume_count words lent ≡ true → words_are_later words ≡ false → OneDisk volume_count (length (shares_in words)) disks
+  one_disk_lent words lent disks is fit later = subst (OneDisk volume_count (length (shares_in words))) is (one_disk words lent fit later)
 
   -- the last of a list of one, and another in its place
   last_of : (rest : List D) (disk first : D) → first ∷ [] ≡ rest ++ disk ∷ [] → (rest ≡ []) × (disk ≡ first)
@@ -115,16 +105,16 @@ module _ {D : Type 0} (volume_count : D → ℕ) where
       none [] k = cc k
       none (x ∷ more) k = cc k
 
-  pub in_place : (items rest out : List D) (disk after : D) → OneDisk volume_count items → items ≡ rest ++ disk ∷ [] → out ≡ rest ++ after ∷ [] →
-      (items ≡ disk ∷ []) × (out ≡ after ∷ []) × (volume_count disk ≡ 1)
+  pub in_place : (items rest out : List D) (disk after : D) {volumes : ℕ} → OneDisk volume_count volumes items → items ≡ rest ++ disk ∷ [] → out ≡ rest ++ after ∷ [] →
+      (items ≡ disk ∷ []) × (out ≡ after ∷ []) × (volume_count disk ≡ volumes)
   in_place items rest out disk after one before behind =
       let last = last_of rest disk one.disk (sym one.only ∙ before) in
-      (one.only ∙ ap (λ d. d ∷ []) (sym last.1), behind ∙ ap (λ r. r ++ after ∷ []) last.0, ap volume_count last.1 ∙ one.one_volume)
+      (one.only ∙ ap (λ d. d ∷ []) (sym last.1), behind ∙ ap (λ r. r ++ after ∷ []) last.0, ap volume_count last.1 ∙ one.has)
 
   pub volumes_stay : (items out : List D) (disk after : D) → items ≡ disk ∷ [] → out ≡ after ∷ [] → volume_count after ≡ volume_count disk → map volume_count out ≡ map volume_count items
   volumes_stay items out disk after before behind same = ap (map volume_count) behind ∙ ap (λ n. n ∷ []) same ∙ sym (ap (map volume_count) before)
 
-  pub some_disk : (items : List D) → OneDisk volume_count items → length items ≡ 0 → ⊥
+  pub some_disk : (items : List D) {volumes : ℕ} → OneDisk volume_count volumes items → length items ≡ 0 → ⊥
   some_disk items one none = let e : length items ≡ 1 = ap length one.only in omega (arith, e, none)
 
 -- what holds of all holds of the only one

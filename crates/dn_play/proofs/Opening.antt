@@ -1,5 +1,5 @@
 -- What a run is whose pool is opened, or isn't.
-use Rattle.std.proofs.Common.{◌≡◌, inl, inr, ℕ, List, [], Option, None, Some, MatchOption, Contains, refl, sym, ◌∙◌, subst, arith}
+use Rattle.std.proofs.Common.{◌≡◌, inl, inr, ℕ, List, [], length, Option, None, Some, MatchOption, Contains, refl, sym, ◌∙◌, subst, arith}
 use mathlib.Core.Path.{fun_ext}
 use Rattle.std.specs.Prelude.{IsSome}
 use Rattle.std.proofs.lemmas.Option.{same_Some}
@@ -21,10 +21,12 @@ use Rattle.map_model.specs.Openings.{LeavesBlockFile, WaitsExactly, MakesCells, 
 use Rattle.map_model.specs.Sound.{matching, exactly, Fits, HasSoundCopies, IsSound}
 use Rattle.map_model.specs.Slots.{view_of}
 use Rattle.map_model.specs.Stands.{BlockBooks}
+use Rattle.pool_state.specs.Rooms.{Choosing}
 use Rattle.pool_state.specs.Stands.{PoolStands}
 use Rattle.pool_open.specs.declared.opening.OpenFault.{OpenFault}
+use Rattle.pool_open.specs.Numbering.{ChoosesAnew}
 use Rattle.pool_open.specs.Waiting.{WaitsAs}
-use Rattle.pool_open.specs.Outcome.{HoldsImage, HasTwoMetas, HasSoundFiles, ReadsAsOne, IsOpened, Opens, fault_disks}
+use Rattle.pool_open.specs.Outcome.{KeptOn, HoldsImage, HasTwoMetas, HasSoundFiles, ReadsAsOne, IsOpened, Opens, fault_disks}
 use Rattle.run_end.specs.declared.ending.Ending.{Ending}
 use Rattle.run_end.specs.declared.ending.Ending.TheVariants.{OpenFault as OpenFailed, NotCarriedOut}
 use Rattle.run_end.specs.Ending.{status_of}
@@ -131,14 +133,14 @@ module _ {D S T R : Type 0} (g : Ghosts D S T R) (Faulty : ℕ → ℕ → Type 
 
   -- the lines were carried out
   pub runs_so : (mid after out : D) {volumes : ℕ} {books : ℕ → BlockBooks} {SoundNow : Cells → Type 0}
-      (shares given : List ℕ) → shares ≡ given → (input taken taken' : Option (List ℕ)) (ending : Ending) → out ≡ after → GoesOn g before mid →
-      (opens : Opens (g.worlds before) (g.worlds mid) volumes books (g.left_since before) (g.left_since mid)) → ((id : ℕ) → IsBlockId id → BooksOpened (opens.cells id) (books id)) →
-      Played Faulty (g.worlds mid) (first_of opens.cells opens.metas books shares) (mark_of g mid) (mark_of g after) input taken taken' ending
+      (choosing : Choosing) (shares : List ℕ) → ChoosesAnew shares 1 books choosing → (input taken taken' : Option (List ℕ)) (ending : Ending) → out ≡ after → GoesOn g before mid →
+      (opens : Opens (g.worlds before) (g.worlds mid) volumes books (g.left_since before) (g.left_since mid)) → ((id : ℕ) → IsBlockId id → BooksOpened (length shares) (opens.cells id) (books id)) →
+      Played Faulty (g.worlds mid) (first_of opens.cells opens.metas books choosing) (mark_of g mid) (mark_of g after) input taken taken' ending
       (LeavesAllowed (g.worlds after)) (PoolStands (g.worlds mid) volumes books matching) SoundNow (g.left_since mid) (g.left_since after) → IsOfLines ending →
       ((image : Files) → HoldsImage (g.worlds before) image → HasTwoMetas image → ⊥) → AddsOnly (g.left_since before) (g.left_since mid) (ReadsAsOne (g.worlds before)) →
       (ending ≡ NotCarriedOut → (image : Files) → CanLeave (g.worlds after) image → HasTwoMetas image) →
-      RunsPool Faulty (g.left_since out) (CanLeave (g.worlds out)) (course_between out given input) taken taken' ending
-  runs_so mid after out {volumes} {books} {SoundNow} shares given same_shares input taken taken' ending is went opens said p of_lines one_meta meanwhile later =
+      RunsPool Faulty (g.left_since out) (CanLeave (g.worlds out)) (course_between out shares input) taken taken' ending
+  runs_so mid after out {volumes} {books} {SoundNow} choosing shares anew input taken taken' ending is went opens said p of_lines one_meta meanwhile later =
       let since_opening : (start : Files) → HoldsImage (g.worlds before) start → ReadsAlikeUpTo (g.left_since after) (mark_of g before) (mark_of g mid) start = λ start holds image s.
       elim (p.crash.passes.adds (g.moment before) image s) [
         | inl earlier ↦ inl (reads_start mid start holds meanwhile image earlier)
@@ -147,20 +149,23 @@ module _ {D S T R : Type 0} (g : Ghosts D S T R) (Faulty : ℕ → ℕ → Type 
       let made : (start : Files) → HoldsImage (g.worlds before) start → MakesCells (block_files start) opens.cells = λ start holds.
       let shows = opens.shown (tells (g.worlds before) start holds) in
       shown_start (g.worlds before) start shows.world holds shows.is (λ files. MakesCells files opens.cells) shows.made in
-      subst (λ d. RunsPool Faulty (g.left_since d) (CanLeave (g.worlds d)) (course_between d given input) taken taken' ending) (sym is) (record {
+      subst (λ d. RunsPool Faulty (g.left_since d) (CanLeave (g.worlds d)) (course_between d shares input) taken taken' ending) (sym is) (record {
         shown = p.shown;
         goes = inr (record {
-          first = first_of opens.cells opens.metas books shares;
+          first = first_of opens.cells opens.metas books choosing;
           mark = mark_of g mid;
           turns = p.turns;
           opened = opens.opened;
           books = said;
-          shares = same_shares;
+          choosing = anew;
           one_meta = one_meta;
           from_start = made;
           metas_from_start = λ start holds.
               let shows = opens.shown (tells (g.worlds before) start holds) in
               shown_start (g.worlds before) start shows.world holds shows.is (λ files. (id : ℕ) → IsBlockId id → HasSoundCopies (Fits (exactly opens.metas) id) (files id)) shows.metas_are;
+          placed_from_start = λ start holds id valid replica is.
+              let shows = opens.shown (tells (g.worlds before) start holds) in
+              shown_start (g.worlds before) start shows.world holds shows.is (λ files. KeptOn (files id) (books id) replica) (shows.placed id valid replica is);
           waiting_from_start = λ start holds id valid waits.
               let shows = opens.shown (tells (g.worlds before) start holds) in
               subst (λ (w : World). WaitsAs (view_of w id) (books id)) (sym (only_fresh (g.worlds before) start holds shows.world shows.is)) (shows.waiting id valid waits);
@@ -172,14 +177,14 @@ module _ {D S T R : Type 0} (g : Ghosts D S T R) (Faulty : ℕ → ℕ → Type 
           shows = p.shows;
           of_lines = of_lines;
           images = λ start holds image s. elim (since_opening start holds image s) [
-            | inl alike ↦ first_allowed (first_of opens.cells opens.metas books shares) p.turns image (start_allows (block_files start) opens.cells image opens.opened (made start holds) alike)
-            | inr later ↦ each_allowed (g.left_since after) (mark_of g mid) (first_of opens.cells opens.metas books shares) p.turns image p.crash.each later
+            | inl alike ↦ first_allowed (first_of opens.cells opens.metas books choosing) p.turns image (start_allows (block_files start) opens.cells image opens.opened (made start holds) alike)
+            | inr later ↦ each_allowed (g.left_since after) (mark_of g mid) (first_of opens.cells opens.metas books choosing) p.turns image p.crash.each later
           ];
           images_opening = since_opening;
           images_each = p.crash.each;
           images_at_exit = λ image leaves. (p.stands image leaves).0;
           whole_at_exit = λ image leaves. (p.stands image leaves).1;
-          whole = λ image s. each_whole (g.left_since after) (mark_of g mid) (first_of opens.cells opens.metas books shares) p.turns image p.crash.each s;
+          whole = λ image s. each_whole (g.left_since after) (mark_of g mid) (first_of opens.cells opens.metas books choosing) p.turns image p.crash.each s;
           later = later;
           sound = λ start holds sound image s.
               let worlds_are = sound_start (g.worlds before) start holds sound in

@@ -1,5 +1,5 @@
 -- What the words of a run say of its disks.
-use Rattle.std.specs.Prelude.{ℕ, ◌≡◌, Bool, true, false, ◌&&◌, ◌||◌, ◌==◌, nat_lt, List, [], length, map, Option, None, Some, Result, Ok, Err, ⊤}
+use Rattle.std.specs.Prelude.{ℕ, ◌≡◌, Bool, true, false, ◌&&◌, ◌==◌, nat_lt, List, [], length, map, Option, None, Some, Result, Ok, Err, ⊤}
 use Rattle.std.specs.List.{list_all}
 use Rattle.std.specs.Option.{option_map_or}
 use Rattle.script_lang.specs.NodeWords.{NodeSaid, node_of}
@@ -14,11 +14,11 @@ fit_disks volume_count disks said = (length said.pools == length disks) && list_
 abbrev pub words_fit : {D : Type 0} → (D → ℕ) → List (List ℕ) → List D → Bool
 words_fit volume_count words disks = option_map_or (fit_disks volume_count disks) (node_of words) false
 
--- several pools or volumes, which isn't carried out yet
+-- several pools, which isn't carried out yet
 abbrev pub names_several : NodeSaid → Bool
-names_several said = nat_lt 1 (length said.pools) || nat_lt 1 (length said.volumes)
+names_several said = nat_lt 1 (length said.pools)
 
--- whether the words name several pools or volumes
+-- whether the words name several pools
 abbrev pub words_are_later : List (List ℕ) → Bool
 words_are_later words = option_map_or names_several (node_of words) false
 
@@ -34,8 +34,8 @@ abbrev pub err_of : {T E : Type 0} → Result T E → Option E
 err_of (Ok value) = None
 err_of (Err fault) = Some fault
 
--- how a run ends whose words aren't carried out: they don't fit, or name several pools or volumes, or there is no
--- memory to read them
+-- how a run ends whose words aren't carried out: they don't fit, or name several pools, or there is no memory to
+-- read them
 abbrev pub IsJudged : Bool → Bool → Option Ending → Type 0
 IsJudged fit later None = (fit ≡ true) × (later ≡ false)
 IsJudged fit later (Some Usage) = fit ≡ false

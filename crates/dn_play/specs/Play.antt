@@ -1,5 +1,5 @@
 -- What a run does with its disks, its input and its output.
-use Rattle.std.specs.Prelude.{ℕ, ◌≡◌, ◌⊎◌, List, [], ◌∷◌, Option, IfSome}
+use Rattle.std.specs.Prelude.{ℕ, ◌≡◌, ◌⊎◌, List, [], ◌∷◌, length, Option, IfSome}
 use Rattle.disk_model.specs.declared.disks.PoolDisks.{Ghosts}
 use Rattle.disk_model.specs.declared.disks.Draft as drafts
 use Rattle.disk_model.specs.declared.disks.Reader as readers
@@ -9,14 +9,15 @@ use Rattle.disk_model.specs.Told.{CanLeave}
 use Rattle.disk_model.specs.Causes.{Rose}
 use Rattle.disk_model.specs.Marks.{Mark, IsLater, faulty_of, mark_of}
 use Rattle.volume_layout.specs.Paths.{IsBlockId}
-use Rattle.map_model.specs.Cells.{waiting}
+use Rattle.map_model.specs.Cells.{Replica, final, waiting}
 use Rattle.map_model.specs.Copies.{block_files, OneWhole}
 use Rattle.map_model.specs.Allows.{AllowsImage}
 use Rattle.map_model.specs.Openings.{MakesCells, ReadsAlike}
 use Rattle.map_model.specs.Slots.{view_of}
 use Rattle.map_model.specs.Sound.{exactly, Fits, IsSoundBy, IsSound}
+use Rattle.pool_open.specs.Numbering.{ChoosesAnew}
 use Rattle.pool_open.specs.Waiting.{WaitsAs}
-use Rattle.pool_open.specs.Outcome.{HoldsImage, HasTwoMetas, IsOpened}
+use Rattle.pool_open.specs.Outcome.{HoldsImage, HasTwoMetas, KeptOn, IsOpened}
 use Rattle.script_lang.specs.declared.reply.Reply.{Reply}
 use Rattle.run_end.specs.declared.ending.Ending.{Ending}
 use Rattle.run_end.specs.declared.ending.Ending.TheVariants.{NoMemory, OpenFault, NotCarriedOut}
@@ -67,7 +68,9 @@ ReadsAlikeUpTo since from to start = (image : Files) → since from.moment image
 
 -- The opening was done. Then lines of the script were carried out, in order, whatever is known of the disks. Where the
 -- disks tell one image at the entry, the first cells are what an opening makes of it, and the meta files those of its
--- copies; the first books of a block that waits are by the files that stand of it there. What a crash could leave from
+-- copies; the first books of a replica name the volume of the copy that is read of it there, those of a block that waits are by
+-- the files that stand of it. The pool chooses anew, from
+-- revision 1 on. What a crash could leave from
 -- the entry on reads as that image, or could be left since the opening's end; what it could leave since a line's
 -- beginning, the cells before or after that line allow, or it could be left since the line's end; what it could leave
 -- since the last line's end, the cells after it allow, and so does each image that can be left at the exit. Of each
@@ -79,11 +82,13 @@ pub record RunsLines (Faulty : ℕ → ℕ → Type 0) (since : ℕ → Files �
   pub mark : Mark
   pub turns : List Turn
   pub opened : (id : ℕ) → IsBlockId id → IsOpened (first.cells id)
-  pub books : (id : ℕ) → IsBlockId id → BooksOpened (first.cells id) (first.books id)
-  pub shares : first.shares ≡ course.shares
+  pub books : (id : ℕ) → IsBlockId id → BooksOpened (length course.shares) (first.cells id) (first.books id)
+  pub choosing : ChoosesAnew course.shares 1 first.books first.choosing
   pub one_meta : (start : Files) → HoldsImage course.told start → HasTwoMetas start → ⊥
   pub from_start : (start : Files) → HoldsImage course.told start → MakesCells (block_files start) first.cells
   pub metas_from_start : (start : Files) → HoldsImage course.told start → IsSoundBy (Fits (exactly first.metas)) start
+  pub placed_from_start : (start : Files) → HoldsImage course.told start →
+      (id : ℕ) → IsBlockId id → (replica : Replica) → first.cells id ≡ final replica → KeptOn (block_files start id) (first.books id) replica
   pub waiting_from_start : (start : Files) → HoldsImage course.told start →
       (id : ℕ) → IsBlockId id → first.cells id ≡ waiting → WaitsAs (view_of (record { settled = start; drafts = [] }) id) (first.books id)
   pub counts : IsLater course.entry mark

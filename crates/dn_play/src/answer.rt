@@ -1,10 +1,11 @@
 //! The answer to one line.
-ghost use Rattle.std.specs.Prelude.{true, ◌≡◌, ◌≤◌, OnOk, OnErr, IfOk, IfErr, IsErr, IsErrOf};
+ghost use Rattle.std.specs.Prelude.{true, ◌≡◌, ◌≤◌, Err, OnOk, OnErr, IfOk, IfErr, IsErr, IsErrOf};
 ghost use Rattle.disk_model.specs.Causes.{Rose};
 ghost use Rattle.disk_model.specs.Files.{Files};
 ghost use Rattle.disk_model.specs.Told.{CanLeave};
 ghost use Rattle.disk_model.specs.Marks.{GoesOn};
 ghost use Rattle.pool_open.specs.Outcome.{HasTwoMetas};
+ghost use Rattle.pool_open.specs.declared.opening.ReopenFault.{ReopenFault};
 ghost use Rattle.script_lang.specs.declared.Line.TheVariants.{Reopen};
 ghost use Rattle.run_model.specs.Script.{is_carried};
 ghost use Rattle.run_model.specs.State.{RunState};
@@ -33,9 +34,19 @@ fn is_carried_out(line: &Line) -> bool
         | Line::Write { .. }
         | Line::Read { .. }
         | Line::Delete { .. }
-        | Line::Reopen => true,
+        | Line::Reopen
+        | Line::Report => true,
         _ => false,
     }
+}
+
+/// Why a command was not carried out.
+#[derive(Clone, Copy, Debug, PartialEq, Eq)]
+enum CarryFault {
+    /// The pool was not opened again.
+    Reopen(ReopenFault),
+    /// There was no memory for a report.
+    Memory,
 }
 
 /// How a session ends whose pool was not opened again.
@@ -49,30 +60,35 @@ fn reopen_ending_of(fault: ReopenFault) -> Ending
     }
 }
 
-/// Carries out the command of a line. Only an opening again may fail, and then the session carries nothing out any more.
+/// Carries out the command of a line. Where an opening again isn't done, the session carries nothing out any more; a report
+/// for which there is no memory changes nothing.
 fn carry_out<D: PoolDisks>(
     alloc: Global,
     session: &mut Session<D>,
     line: Line,
-) -> Result<Reply, ReopenFault>
+) -> Result<Reply, CarryFault>
     requires command { is_carried line ≡ true }
     requires stands { SessionStandsForSome session.old }
-    requires one_volume { D.volume_count session.old.pool.disks ≡ 1 }
     ensures ok { (state : RunState) → SessionStands session.old state →
         IfOk result (λ reply. SessionCarriesLine state line reply session.old session.new) }
     ensures err { (state : RunState) → SessionStands session.old state →
         OnErr result (StaysCrashSafe state.cells (SoundFor session.old)
         (D.left_since session.old.pool.disks) (D.left_since session.new.pool.disks)) }
-    ensures reopens { IsErr result → line ≡ Reopen }
-    ensures failed { IsErrOf result ReopenFault.Failed → Rose (D.faults session.old.pool.disks) (D.faults session.new.pool.disks) }
-    ensures two_metas { IsErrOf result ReopenFault.Later → (image : Files) → CanLeave (D.worlds session.new.pool.disks) image → HasTwoMetas image }
+    ensures reopens { (fault : ReopenFault) → result ≡ Err (CarryFault.Reopen fault) → line ≡ Reopen }
+    ensures failed { result ≡ Err (CarryFault.Reopen ReopenFault.Failed) → Rose (D.faults session.old.pool.disks) (D.faults session.new.pool.disks) }
+    ensures two_metas { result ≡ Err (CarryFault.Reopen ReopenFault.Later) → (image : Files) → CanLeave (D.worlds session.new.pool.disks) image → HasTwoMetas image }
+    ensures unchanged { IsErrOf result CarryFault.Memory → session.new ≡ session.old }
     ensures goes_on { GoesOn D.PoolDisks session.old.pool.disks session.new.pool.disks }
 {
     match line {
-        Line::Reopen => {
-            session.reopen(alloc)?;
-            Ok(Reply::Done)
-        }
+        Line::Reopen => match session.reopen(alloc) {
+            Ok(()) => Ok(Reply::Done),
+            Err(fault) => Err(CarryFault::Reopen(fault)),
+        },
+        Line::Report => match session.report(alloc) {
+            Ok(reply) => Ok(reply),
+            Err(_) => Err(CarryFault::Memory),
+        },
         command => Ok(session.carry_out(alloc, command)),
     }
 }
@@ -86,7 +102,6 @@ pub fn answer<D: PoolDisks, K: Sink>(
     text: &[u8],
 ) -> Result<(), Ending>
     requires stands { SessionStandsForSome session.old }
-    requires one_volume { D.volume_count session.old.pool.disks ≡ 1 }
     ensures ok { (state : RunState) → SessionStands session.old state →
         OnOk result (SessionAnswers state text.now (K.taken sink.old) (K.taken sink.new) session.old session.new) }
     ensures err { (state : RunState) → SessionStands session.old state → IfErr result (λ ending.
@@ -114,7 +129,8 @@ pub fn answer<D: PoolDisks, K: Sink>(
     }
     let reply = match carry_out(alloc, session, command) {
         Ok(reply) => reply,
-        Err(fault) => return Err(reopen_ending_of(fault)),
+        Err(CarryFault::Reopen(fault)) => return Err(reopen_ending_of(fault)),
+        Err(CarryFault::Memory) => return Err(Ending::NoMemory),
     };
     let Ok(shown) = write_reply(alloc, &reply) else {
         return Err(Ending::NoMemory);

@@ -28,7 +28,6 @@ pub fn play_lines<D: PoolDisks, S: Source, K: Sink>(
     sink: &mut K,
 ) -> Ending
     requires stands { SessionStandsForSome session.old }
-    requires one_volume { D.volume_count session.old.pool.disks ≡ 1 }
     ensures played { (state : RunState) → SessionStands session.old state →
         SessionPlays state (S.left source.old) (K.taken sink.old) (K.taken sink.new) result session.old session.new }
     ensures goes_on { GoesOn D.PoolDisks session.old.pool.disks session.new.pool.disks }

@@ -42,7 +42,7 @@ pub fn play<D: PoolDisks, S: Source, K: Sink>(
     ensures refused { words_fit D.volume_count (map string_bytes words.now) disks.items ≡ false →
         Declines Ending.Usage (K.taken sink.old) (K.taken sink.new) result.status × (source.new ≡ source.old) × (result.disks.items ≡ disks.items) }
     ensures usage { result.status ≡ 1 → words_fit D.volume_count (map string_bytes words.now) disks.items ≡ false }
-    // So are words that name several pools or volumes, as long as these aren't carried out.
+    // So are words that name several pools, as long as these aren't carried out.
     ensures later { words_fit D.volume_count (map string_bytes words.now) disks.items ≡ true → words_are_later (map string_bytes words.now) ≡ true →
         Declines Ending.NotCarriedOut (K.taken sink.old) (K.taken sink.new) result.status × (source.new ≡ source.old) × (result.disks.items ≡ disks.items) }
     // Otherwise the pool is opened, with the shares that the words say, and the lines of the script are carried out.

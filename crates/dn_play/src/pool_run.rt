@@ -30,7 +30,7 @@ pub fn play_pool<D: PoolDisks, S: Source, K: Sink>(
     sink: &mut K,
 ) -> PoolRun<D>
     requires aside { InEachWorld (D.worlds disks) DraftsAside }
-    requires one_volume { D.volume_count disks ≡ 1 }
+    requires some_volume { 1 ≤ D.volume_count disks }
     requires shares { length shares.items ≡ D.volume_count disks }
     ensures runs { RunsPoolOver D.PoolDisks D.Draft.Draft D.Reader.Reader
         shares.items (S.left source.old) (K.taken sink.old) (K.taken sink.new) result.ending disks result.disks }
@@ -40,7 +40,7 @@ pub fn play_pool<D: PoolDisks, S: Source, K: Sink>(
     ensures later_sink { K.faults sink.old ≤ K.faults sink.new }
     ensures volumes { D.volume_count result.disks ≡ D.volume_count disks }
 {
-    let pool = match open_pool(alloc, disks, shares) {
+    let pool = match open_pool(alloc, disks, shares, 1) {
         Ok(pool) => pool,
         Err(OpenFault::Failed(disks)) => return PoolRun {
             ending: Ending::OpenFault,

@@ -119,7 +119,8 @@ fn other_words_are_refused(rt: HostRuntime) -> Result<(), Fail> {
         ("", 1, 1, "end usage\n"),
         ("bp1,bp2 DN-1 DS-1:1000:v1", 1, 1, "end usage\n"),
         ("bp1 DN-1 DS-1:1000:v1 DS-2:1000:v2", 1, 1, "end usage\n"),
-        ("bp1 DN-1 DS-1:1000:v1 DS-2:1000:v2", 2, 8, "end later 0\n"),
+        ("bp1 DN-1 DS-1:1000:v1 DS-1:1000:v2", 2, 1, "end usage\n"),
+        ("bp1 DN-1 DS-1:0:v1 DS-2:1000:v2", 2, 1, "end usage\n"),
     ] {
         let source = MemSource::make(b"read 5\n".to_vec(alloc)?);
         let (status, shown) = played(alloc, words, volumes, source, MemSink::make(alloc))?;
@@ -150,6 +151,37 @@ fn starts_are_refused_for_room(rt: HostRuntime) -> Result<(), Fail> {
         let source = MemSource::make(script.as_bytes().to_vec(alloc)?);
         let words = "bp1 DN-1 DS-1:10:v1";
         let (status, shown) = played(alloc, words, 1, source, MemSink::make(alloc))?;
+        assert_eq!(rt; status, 0, "of {script}");
+        assert_eq!(rt; shown.as_slice(), replies.as_bytes(), "of {script}");
+    }
+    Ok(())
+}
+
+// Each volume in turn takes a fresh replica, the first that has room; the pointer goes on only where an entry is made, and
+// begins anew where the pool is opened again.
+#[test]
+fn volumes_are_chosen_in_turn(rt: HostRuntime) -> Result<(), Fail> {
+    let alloc = rt.alloc();
+    for (shares, script, replies) in [
+        (
+            "DS-1:1000:v1 DS-2:1000:v2",
+            "write 5 1001 61\nwrite 6 1002 61\nwrite 7 1003 61\nreport\n",
+            "ok\nok\nok\nreport 2 0\nvolume 1 1000 2 2\nvolume 2 1000 1 1\n",
+        ),
+        (
+            "DS-1:4:v1 DS-2:9:v2",
+            "open 5 1 5\nreport\nopen 6 1 5\nwrite 6 1 616161\nwrite 7 1 61\ndrop 5\nreport\n",
+            "ok\nreport 2 0\nvolume 1 4 0 0\nvolume 2 9 5 0\nfull 5 4\nok\nok\nok\nreport 2 0\nvolume 1 4 3 1\nvolume 2 9 1 1\n",
+        ),
+        (
+            "DS-1:10:v1 DS-2:10:v2",
+            "write 5 1 61\nreopen\nwrite 6 1 61\ndelete 5\nreport\n",
+            "ok\nok\nok\nok\nreport 2 0\nvolume 1 10 1 1\nvolume 2 10 0 0\n",
+        ),
+    ] {
+        let source = MemSource::make(script.as_bytes().to_vec(alloc)?);
+        let words = format!(in alloc; "bp1 DN-1 {shares}")?;
+        let (status, shown) = played(alloc, words.as_str(), 2, source, MemSink::make(alloc))?;
         assert_eq!(rt; status, 0, "of {script}");
         assert_eq!(rt; shown.as_slice(), replies.as_bytes(), "of {script}");
     }
@@ -277,18 +309,34 @@ fn openings_again_that_fail_end_a_run(rt: HostRuntime) -> Result<(), Fail> {
     Ok(())
 }
 
-// Puts a file on volume 1.
+// Puts a file on a volume.
 #[tactic(auto, using(crate::proofs::PutFiles::put_aside))]
+pub(crate) fn put_on(
+    disk: &mut MemDisks,
+    vol: u8,
+    path: &str,
+    bytes: &[u8],
+) -> Result<(), AllocError>
+    requires low { 1 ≤ vol }
+    requires high { vol ≤ ⟦<MemDisks as PoolDisks>⟧.volume_count disk.old }
+    requires aside { InEachWorld (⟦<MemDisks as PoolDisks>⟧.worlds disk.old) DraftsAside }
+    ensures volumes { ⟦<MemDisks as PoolDisks>⟧.volume_count disk.new ≡ ⟦<MemDisks as PoolDisks>⟧.volume_count disk.old }
+    ensures aside { OnOk result (InEachWorld (⟦<MemDisks as PoolDisks>⟧.worlds disk.new) DraftsAside) }
+{
+    match disk.put(vol, path, bytes) {
+        Ok(()) => Ok(()),
+        Err(fault) => Err(fault),
+    }
+}
+
+// Puts a file on volume 1.
 pub(crate) fn put_file(disk: &mut MemDisks, path: &str, bytes: &[u8]) -> Result<(), AllocError>
     requires one_volume { ⟦<MemDisks as PoolDisks>⟧.volume_count disk.old ≡ 1 }
     requires aside { InEachWorld (⟦<MemDisks as PoolDisks>⟧.worlds disk.old) DraftsAside }
     ensures one_volume { ⟦<MemDisks as PoolDisks>⟧.volume_count disk.new ≡ 1 }
     ensures aside { OnOk result (InEachWorld (⟦<MemDisks as PoolDisks>⟧.worlds disk.new) DraftsAside) }
 {
-    match disk.put(1, path, bytes) {
-        Ok(()) => Ok(()),
-        Err(fault) => Err(fault),
-    }
+    put_on(disk, 1, path, bytes)
 }
 
 // The only disks of a run.
@@ -372,6 +420,45 @@ fn stored_replicas_are_opened(rt: HostRuntime) -> Result<(), Fail> {
     let run = play(alloc, words.as_slice(), disks, &mut source, &mut sink);
     let replies =
         "data 1001 68656c6c6f\nexists\nwaiting\nnone\nwaiting\nok\nok\ndata 1002 61\nok\nnone\n";
+    assert_eq!(rt; run.status, 0);
+    assert_eq!(rt; sink.bytes(), replies.as_bytes());
+    Ok(())
+}
+
+// Disks of two volumes with a copy of block 5 on each.
+fn twin_disks(alloc: Global) -> Result<Vec<MemDisks>, AllocError>
+    ensures aside { IfOk result (λ disks. All (λ d. InEachWorld (⟦<MemDisks as PoolDisks>⟧.worlds d) DraftsAside) disks.items) }
+{
+    let block = "current/finalized/subdir0/subdir0/blk_5";
+    let mut disk = MemDisks::empty(alloc, 2)?;
+    put_on(&mut disk, 1, block, b"a")?;
+    put_on(
+        &mut disk,
+        1,
+        "current/finalized/subdir0/subdir0/blk_5_1001.meta",
+        &[0, 1, 0, 0, 0, 2, 0],
+    )?;
+    put_on(&mut disk, 2, block, b"ab")?;
+    put_on(
+        &mut disk,
+        2,
+        "current/finalized/subdir0/subdir0/blk_5_1002.meta",
+        &[0, 1, 0, 0, 0, 2, 0],
+    )?;
+    only(alloc, disk)
+}
+
+#[test]
+fn the_greatest_copy_of_a_block_is_kept(rt: HostRuntime) -> Result<(), Fail> {
+    let alloc = rt.alloc();
+    let words = words_of(alloc, "bp1 DN-1 DS-1:1000:v1 DS-2:1000:v2")?;
+    let disks = twin_disks(alloc)?;
+    let script = b"read 5\nreport\ndelete 5\nreopen\nread 5\n";
+    let mut source = MemSource::make(script.to_vec(alloc)?);
+    let mut sink = MemSink::make(alloc);
+    let run = play(alloc, words.as_slice(), disks, &mut source, &mut sink);
+    let replies =
+        "data 1002 6162\nreport 2 0\nvolume 1 1000 0 0\nvolume 2 1000 2 1\nok\nok\nnone\n";
     assert_eq!(rt; run.status, 0);
     assert_eq!(rt; sink.bytes(), replies.as_bytes());
     Ok(())

@@ -22,11 +22,11 @@ fn fit<D: PoolDisks>(disks: &[D], words: &NodeWords) -> bool
     words.pools.len() == disks.len() && all_have(disks, words.volumes.len())
 }
 
-/// Whether the words name several pools or volumes.
+/// Whether the words name several pools.
 fn name_several(words: &NodeWords) -> bool
     ensures { result ≡ names_several words.now }
 {
-    1 < words.pools.len() || 1 < words.volumes.len()
+    1 < words.pools.len()
 }
 
 /// The shares of the volumes that the words name.

@@ -63,11 +63,8 @@ returns-then-not-found-clause-played g c state standing =
 pub returns-then-not-found-clause-at_end : goal.returns-then-not-found-clause-at_end
 returns-then-not-found-clause-at_end g c = λ _. c.in-Ok-next_line.ensures.at_end (ap Ok c.if-not-found.true)
 
-pub answer-requires-clause-stands : goal.answer-requires-clause-stands
-answer-requires-clause-stands g c = let p = c.lines.invariant.progress c.requires.stands.0 c.requires.stands.1 in (_, p.stands)
-
-pub answer-requires-clause-one_volume : goal.answer-requires-clause-one_volume
-answer-requires-clause-one_volume g c = c.lines.invariant.went_on.volume_count ∙ c.requires.one_volume
+pub answer-requires : goal.answer-requires
+answer-requires g c = let p = c.lines.invariant.progress c.requires.stands.0 c.requires.stands.1 in record { stands = (_, p.stands) }
 
 pub returns-in-Err-answer-clause-played : goal.returns-in-Err-answer-clause-played
 returns-in-Err-answer-clause-played g c state standing =

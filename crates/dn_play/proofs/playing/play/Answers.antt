@@ -1,4 +1,4 @@
-use Rattle.std.proofs.Common.{◌≡◌, inl, inr, true, false, map, length, string_bytes, List, ℕ, Some, refl, sym, ap, ◌∙◌, subst}
+use Rattle.std.proofs.Common.{◌≡◌, ◌≤◌, inl, inr, true, false, map, length, string_bytes, List, ℕ, Some, refl, sym, ap, ◌∙◌, subst}
 use Rattle.disk_model.specs.Told.{InEachWorld}
 use Rattle.map_model.specs.World.{DraftsAside}
 use Rattle.run_end.specs.declared.ending.Ending.TheVariants.{Complete, Usage, SourceFault, SinkFault, OpenFault}
@@ -6,7 +6,7 @@ use Rattle.dn_play.specs.Outside.{words_fit}
 use Rattle.dn_play.specs.Play.{RunsOver}
 use Rattle.dn_play.proofs.LastLine.{run_of, not_usage, opening_failed, rose_in, stops_at}
 use Rattle.dn_play.proofs.Judging.{judged_memory, judged_usage, judged_later, never_judged, run_without, memory_stops}
-use Rattle.dn_play.proofs.OneDisk.{one_share, one_disk, one_disk_lent, in_place, volumes_stay, some_disk, holds_of_only, judged_items}
+use Rattle.dn_play.proofs.OneDisk.{one_disk, one_disk_lent, in_place, volumes_stay, some_disk, holds_of_only, judged_items}
 use Rattle.dn_play.proofs.playing.play.Goals as goal
 
 pub returns-in-Err-clause-refused : goal.returns-in-Err-clause-refused
@@ -61,17 +61,17 @@ play_pool-run-requires-clause-aside g c =
     let p = in_place g.D.PoolDisks.volume_count _ _ _ _ c.in-Some.disk only c.in-Some.ensures.items refl in
     holds_of_only (λ d. InEachWorld (g.D.PoolDisks.worlds d) DraftsAside) _ c.in-Some.disk p.0 c.requires.aside
 
-pub play_pool-run-requires-clause-one_volume : goal.play_pool-run-requires-clause-one_volume
-play_pool-run-requires-clause-one_volume g c =
+pub play_pool-run-requires-clause-some_volume : goal.play_pool-run-requires-clause-some_volume
+play_pool-run-requires-clause-some_volume g c =
     let only = one_disk_lent g.D.PoolDisks.volume_count _ _ _ c.as_slice.ensures.value c.in-Ok.ensures.judged.0 c.in-Ok.ensures.judged.1 in
     let p = in_place g.D.PoolDisks.volume_count _ _ _ _ c.in-Some.disk only c.in-Some.ensures.items refl in
-    p.2
+    subst (λ n. 1 ≤ n) (sym p.2) only.some
 
 pub play_pool-run-requires-clause-shares : goal.play_pool-run-requires-clause-shares
 play_pool-run-requires-clause-shares g c =
     let only = one_disk_lent g.D.PoolDisks.volume_count _ _ _ c.as_slice.ensures.value c.in-Ok.ensures.judged.0 c.in-Ok.ensures.judged.1 in
     let p = in_place g.D.PoolDisks.volume_count _ _ _ _ c.in-Some.disk only c.in-Some.ensures.items refl in
-    ap length c.in-Ok.ensures.shares ∙ one_share g.D.PoolDisks.volume_count _ _ c.in-Ok.ensures.judged.0 c.in-Ok.ensures.judged.1 ∙ sym p.2
+    ap length c.in-Ok.ensures.shares ∙ sym p.2
 
 pub returns-clause-refused : goal.returns-clause-refused
 returns-clause-refused g c = λ unfit.

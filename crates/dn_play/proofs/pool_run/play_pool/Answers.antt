@@ -1,10 +1,10 @@
-use Rattle.std.proofs.Common.{inl, inr, ap, ◌∙◌, refl, subst, Err, option_map}
+use Rattle.std.proofs.Common.{inl, inr, length, ap, ◌∙◌, refl, sym, subst, Err, option_map}
 use Rattle.std.specs.Prelude.{IsSome}
-use Rattle.std.specs.Vec.{vec_items}
 use Rattle.pair_draft.specs.Writers.{writer_of}
 use Rattle.pool_open.specs.Outcome.{fault_disks}
 use Rattle.line_io.proofs.Appending.{appends_nothing}
 use Rattle.pool_state.specs.Books.{block_books}
+use Rattle.pool_state.specs.Rooms.{choosing_of}
 use Rattle.run_session.proofs.Opened.{first_of, stands_first, books_opened}
 use Rattle.dn_play.proofs.Opening.{left_start, stops_so, runs_so}
 use Rattle.dn_play.proofs.pool_run.play_pool.Goals as goal
@@ -27,13 +27,13 @@ returns-in-Err-Later-clause-runs g c =
     (λ e. absurd (cc e)) (λ e image holds. left_start _ _ image holds (o.ensures.unchanged o.disks (ap Err o.field-0-is)) (g.met.D.PoolDisks.is_disk o.disks).some (subst (λ d. IsSome (g.D.PoolDisks.worlds c.args.disks) → IsSome (g.D.PoolDisks.worlds d)) (ap fault_disks o.field-0-is) o.ensures.goes_on.honest.0) (o.ensures.two_metas o.disks (ap Err o.field-0-is) image)) o.ensures.images
 
 pub play_lines-ending-requires : goal.play_lines-ending-requires
-play_lines-ending-requires g c = record { one_volume = c.in-Ok.ensures.goes_on.volume_count ∙ c.requires.one_volume; stands = (first_of c.in-Ok.ensures.opened.cells c.in-Ok.ensures.opened.metas (block_books c.in-Ok.pool.map) c.in-Ok.pool.shares.items, stands_first _ c.in-Ok.ensures.opened (λ id. ap (option_map (writer_of g.D.Draft.Draft.place g.D.Draft.Draft.bytes)) (c.new.ensures id))) }
+play_lines-ending-requires g c = record { stands = (first_of c.in-Ok.ensures.opened.cells c.in-Ok.ensures.opened.metas (block_books c.in-Ok.pool.map) (choosing_of c.in-Ok.pool), stands_first _ c.in-Ok.ensures.opened (λ id. ap (option_map (writer_of g.D.Draft.Draft.place g.D.Draft.Draft.bytes)) (c.new.ensures id))) }
 
 pub returns-clause-runs : goal.returns-clause-runs
 returns-clause-runs g c =
     let opens = c.in-Ok.ensures.opened in
     let standing = stands_first _ opens (λ id. ap (option_map (writer_of g.D.Draft.Draft.place g.D.Draft.Draft.bytes)) (c.new.ensures id)) in
-    runs_so g.D.PoolDisks _ _ (g.met.D.PoolDisks.only_now c.args.disks) c.in-Ok.pool.disks _ _ c.in-Ok.pool.shares.items c.args.shares.items (ap vec_items c.in-Ok.ensures.shares) _ _ _ _ c.close_pool.ensures c.in-Ok.ensures.goes_on opens
-    (λ id valid. books_opened (c.in-Ok.ensures.goes_on.volume_count ∙ c.requires.one_volume) (λ other. refl) opens.stands id valid (opens.opened id valid))
-    (c.play_lines-ending.ensures.played (first_of opens.cells opens.metas (block_books c.in-Ok.pool.map) c.in-Ok.pool.shares.items) standing)
+    runs_so g.D.PoolDisks _ _ (g.met.D.PoolDisks.only_now c.args.disks) c.in-Ok.pool.disks _ _ (choosing_of c.in-Ok.pool) c.args.shares.items c.in-Ok.ensures.choosing _ _ _ _ c.close_pool.ensures c.in-Ok.ensures.goes_on opens
+    (λ id valid. books_opened (length c.args.shares.items) (c.in-Ok.ensures.goes_on.volume_count ∙ sym c.requires.shares) (λ other. refl) opens.stands id valid (opens.opened id valid))
+    (c.play_lines-ending.ensures.played (first_of opens.cells opens.metas (block_books c.in-Ok.pool.map) (choosing_of c.in-Ok.pool)) standing)
     c.play_lines-ending.ensures.of_lines (λ image holds. c.in-Ok.ensures.one_meta image holds refl) c.in-Ok.ensures.images c.play_lines-ending.ensures.two_metas
