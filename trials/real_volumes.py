@@ -7,9 +7,9 @@ It wants the program that `rt run` in `crates/dnplay` builds. A volume that anot
 can't be taken, is left as it is, file by file. Links, FIFOs, sockets, devices, directories and files with further
 names, at each name where the program makes or reads one, are neither followed nor opened nor written: what stands
 outside of the volume stays as it was, and no line waits for another process. On a file system that is full, what was
-answered before is there. Each run is compared with the replies and the status that it must have; the last line says
-what was run, or the first difference. Devices are made and a small file system is mounted by root alone: without, they
-are left out.
+answered before is there. Over two volumes writes go to each in turn, and of two copies the greater stays. Each run is
+compared with the replies and the status that it must have; the last line says what was run, or the first difference.
+Devices are made and a small file system is mounted by root alone: without, they are left out.
 """
 
 import fcntl
@@ -117,8 +117,8 @@ def check_locks(room):
     before = tree(empty)
     want("a locked volume without files", played(empty, ["read 5"]), REFUSED)
     for dirs in [[empty, other], [other, empty]]:
-        Run(dirs).end(["read 5"])
-        want("a locked volume beside another", tree(empty), before)
+        want("a locked volume beside another", Run(dirs).end(["read 5"]), REFUSED)
+        want("the tree of a locked volume beside another", tree(empty), before)
         want("a volume beside a locked one", [at for at in sorted(other.rglob("*")) if at.name != "in_use.lock"], [])
     held.close()
 
@@ -133,7 +133,8 @@ def check_two_runs(room):
     want("the second run", played(volume, ["delete 5"]), REFUSED)
     (room / "link").symlink_to("v")
     want("the second run through a link", played(room / "link", ["delete 5"]), REFUSED)
-    want("the second run by two names", Run([room / "w", room / "w/../w"]).end(["read 5"])[1] in (6, 8), True)
+    # both locks are of one file, and the second can't be taken beside the first
+    want("the second run by two names", Run([room / "w", room / "w/../w"]).end(["read 5"]), REFUSED)
     want("the tree of the first run", tree(volume), before)
     want("the first run", first.end(["push 5 6c6c6f", "finish 5", "read 5"]), (["ok", "ok", DATA], 0))
     want("the next run", played(volume, ["read 5"]), ([DATA], 0))
@@ -145,6 +146,48 @@ def check_two_runs(room):
     killed.run.kill()
     killed.run.wait()
     want("the run after one that was killed", played(volume, ["read 5"]), ([DATA], 0))
+
+
+# Two volumes
+
+
+def names_of(volume):
+    """The files of block 5 and the others of its directory."""
+    return sorted(path.name for path in (volume / "current/bp1" / PLACE).glob("*"))
+
+
+def check_two_volumes(room):
+    one, two = room / "1", room / "2"
+    lines = [WRITE, "write 6 1001 61", "write 7 1001 62", "report"]
+    report = ["report 2 0", "volume 1 1000000000 6 2", "volume 2 1000000000 1 1"]
+    want("writes in turn", Run([one, two]).end(lines), (["ok", "ok", "ok", *report], 0))
+    want("volume 1", names_of(one), ["blk_5", "blk_5_1001.meta", "blk_7", "blk_7_1001.meta"])
+    want("volume 2", names_of(two), ["blk_6", "blk_6_1001.meta"])
+    want("several pools", Run([one, two], "bp1,bp2").end(["read 5"]), (["end later 0"], 8))
+
+    # a longer copy of a lesser stamp, and then the same pair on both, of which the one on the lower volume stays
+    place = two / "current/bp1" / PLACE
+    (place / "blk_5").write_bytes(b"longer than it")
+    (place / "blk_5_1000.meta").write_bytes(bytes([0, 1, 0, 0, 0, 2, 0]))
+    want("two copies", Run([one, two]).end(["read 5", "report"]), ([DATA, *report], 0))
+    want("volume 2 without the lesser copy", names_of(two), ["blk_6", "blk_6_1001.meta"])
+    for name in ["blk_5", "blk_5_1001.meta"]:
+        shutil.copy(one / "current/bp1" / PLACE / name, place / name)
+    want("a pair on both", Run([one, two]).end(["read 5", "report"]), ([DATA, *report], 0))
+    want("volume 2 without the same pair", names_of(two), ["blk_6", "blk_6_1001.meta"])
+
+    # the volumes by other places, and one volume alone
+    report[1:] = ["volume 1 1000000000 1 1", "volume 2 1000000000 6 2"]
+    found = Run([two, one]).end(["read 5", "read 6", "report"])
+    want("the volumes turned round", found, ([DATA, "data 1001 61", *report], 0))
+    want("volume 2 alone", played(two, ["read 5", "read 6"]), (["none", "data 1001 61"], 0))
+    before = tree(one)
+    (room / "file").write_bytes(b"kept")
+    want("a file as volume 2", Run([one, room / "file"]).end(["delete 5"]), REFUSED)
+    want("volume 1 beside a file", tree(one), before)
+    held = try_lock(one / "in_use.lock")
+    want("the lock of volume 1 after that", held is None, False)
+    held.close()
 
 
 # Directories in which nothing can be made, and streams that are closed
@@ -409,13 +452,14 @@ def main():
         global PROGRAM
         PROGRAM = pathlib.Path(shutil.copy(PROGRAM, top / "dnplay"))
         PROGRAM.chmod(0o755)
-        for check in [check_locks, check_two_runs, check_directories, check_full, check_names, check_layout]:
+        streams = [check_directories, check_full]
+        for check in [check_locks, check_two_runs, check_two_volumes, *streams, check_names, check_layout]:
             room = top / check.__name__
             room.mkdir()
             counts.append(check(room))
-    full = "a full file system" if counts[3] else "no full file system (mount isn't allowed here)"
-    things = f"{counts[4]} things at names, {counts[5]} in place of directories"
-    print(f"locks, two runs, directories, {full}, {things}: all right")
+    full = "a full file system" if counts[4] else "no full file system (mount isn't allowed here)"
+    things = f"{counts[5]} things at names, {counts[6]} in place of directories"
+    print(f"locks, two runs, two volumes, directories, {full}, {things}: all right")
 
 
 if __name__ == "__main__":
