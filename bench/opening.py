@@ -1,15 +1,16 @@
 #!/usr/bin/env python3
 """Measures the opening of a pool beside a loop in C, in one run.
 
-    python3 bench/opening.py [COUNT ..]
+    python3 bench/opening.py [--volumes N] [COUNT ..]
 
 It wants the program that `rt run` in `crates/dnplay` builds, and a C compiler. For each COUNT of replicas (1,000, 10,000
-and 100,000 where none is given) it makes one volume with so many replicas of five bytes, opens the pool and reads one of
-them, and runs a loop in C that lists each directory of the pool and asks the size of each block file. It prints the time
-of both (the least of five runs, processor time of the program and of the system), their ratio, and the peak memory a
-replica.
+and 100,000 where none is given) it makes N volumes (3 where none is given) with so many replicas of five bytes in turn,
+opens the pool and reads one of them, and runs a loop in C that lists each directory of the pool and asks the size of
+each block file. It prints the time of both (the least of five runs, processor time of the program and of the system),
+their ratio, and the peak memory a replica.
 """
 
+import argparse
 import os
 import pathlib
 import resource
@@ -39,10 +40,12 @@ static void list(const char *path, int sizes) {
 }
 int main(int n, char **a) {
   char path[4096];
-  snprintf(path, sizeof path, "%s/rbw", a[1]); list(path, 1);
-  snprintf(path, sizeof path, "%s/../tmp", a[1]); list(path, 0);
-  for (int i = 0; i < 32; i++) for (int j = 0; j < 32; j++) {
-    snprintf(path, sizeof path, "%s/finalized/subdir%d/subdir%d", a[1], i, j); list(path, 1);
+  for (int v = 1; v < n; v++) {
+    snprintf(path, sizeof path, "%s/rbw", a[v]); list(path, 1);
+    snprintf(path, sizeof path, "%s/../tmp", a[v]); list(path, 0);
+    for (int i = 0; i < 32; i++) for (int j = 0; j < 32; j++) {
+      snprintf(path, sizeof path, "%s/finalized/subdir%d/subdir%d", a[v], i, j); list(path, 1);
+    }
   }
   printf("%lld %lld\n", names, bytes);
 }
@@ -71,24 +74,30 @@ def run_child(command, text=b""):
     return float(seconds), int(peak)
 
 
-def make_volume(count, directory):
-    """A volume with so many replicas, of which the program wrote the first; its `current`."""
-    words = ["bp1", "DN-1", f"DS-1:1000000000:{directory}"]
-    run_child([str(PROGRAM), *words], b"write 1 1001 68656c6c6f\n")
-    first = next(pathlib.Path(directory).rglob("blk_1"))
-    meta = next(first.parent.glob("blk_1_*.meta")).read_bytes()
-    finalized = first.parent.parent.parent
-    for block in range(2, count + 1):
-        place = finalized / f"subdir{block >> 16 & 31}" / f"subdir{block >> 8 & 31}"
-        if block & 255 == 0 or block == 2:
-            place.mkdir(parents=True, exist_ok=True)
+def make_volumes(volumes, count, directory):
+    """Volumes with so many replicas in turn, of which the program wrote the first of each; their `current`."""
+    directory.mkdir()
+    words = ["bp1", "DN-1", *(f"DS-{at}:1000000000:{directory}/v{at}" for at in range(1, volumes + 1))]
+    run_child([str(PROGRAM), *words], "".join(f"write {at} 1001 68656c6c6f\n" for at in range(1, volumes + 1)).encode())
+    finalized = []
+    for at in range(1, volumes + 1):
+        first = next((directory / f"v{at}").rglob(f"blk_{at}"))
+        meta = next(first.parent.glob(f"blk_{at}_*.meta")).read_bytes()
+        finalized.append(first.parent.parent.parent)
+    for block in range(volumes + 1, count + 1):
+        place = finalized[(block - 1) % volumes] / f"subdir{block >> 16 & 31}" / f"subdir{block >> 8 & 31}"
+        place.mkdir(parents=True, exist_ok=True)
         (place / f"blk_{block}").write_bytes(b"hello")
         (place / f"blk_{block}_1001.meta").write_bytes(meta)
-    return words, finalized.parent
+    return words, [str(at.parent) for at in finalized]
 
 
 def main():
-    counts = [int(word) for word in sys.argv[1:]] or [1_000, 10_000, 100_000]
+    parser = argparse.ArgumentParser(description="Measures the opening of a pool beside a loop in C.")
+    parser.add_argument("counts", metavar="COUNT", type=int, nargs="*", default=[1_000, 10_000, 100_000])
+    parser.add_argument("--volumes", type=int, default=3)
+    said = parser.parse_args()
+    counts = said.counts
     if not PROGRAM.exists():
         sys.exit("build the program first: rt run in crates/dnplay")
     with tempfile.TemporaryDirectory() as folder:
@@ -99,9 +108,9 @@ def main():
         base = None
         for count in counts:
             directory = pathlib.Path(folder) / f"v{count}"
-            words, current = make_volume(count, directory)
+            words, currents = make_volumes(said.volumes, count, directory)
             ours = [run_child([str(PROGRAM), *words], b"read 1\n") for _ in range(5)]
-            theirs = [run_child([str(loop), str(current)]) for _ in range(5)]
+            theirs = [run_child([str(loop), *currents]) for _ in range(5)]
             seconds, peak = min(ours)[0], max(peak for _, peak in ours)
             base = peak if base is None else base
             of_loop = min(theirs)[0]
