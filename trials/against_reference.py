@@ -8,11 +8,12 @@ seeds from N on (0 where none is given) four random scripts run one after the ot
 reply is compared; then three scripts are killed at a random moment, and what the next run reads is compared: all that
 was answered stands, and only the block of the line that was cut off may stand before or after that line. Between two
 scripts some files of replicas are spoilt, so that reads answer verdicts, copies of replicas are put on other volumes,
-of which an opening keeps the greatest, and block files without a meta file are left, which wait where their block has
-no replica; each meta file that the program wrote is compared with checksums made here. Each seed has its own shares of
-the volumes, so that starts are refused for room. With --seconds no seed but the first begins later than that; without
-COUNT all begin that do by then. It ends with a line of what was run, or with the first difference and status 1; the
-directories, in `crates/dnplay/out`, are left as they were found then.
+of which an opening keeps the greatest, block files without a meta file are left, which wait where their block has no
+replica, and meta files are put beside others, of which one counts; each meta file that the program wrote is compared
+with checksums made here. Each seed has its own shares of the volumes, so that starts are refused for room. With
+--seconds no seed but the first begins later than that; without COUNT all begin that do by then. It ends with a line of
+what was run, or with the first difference and status 1; the directories, in `crates/dnplay/out`, are left as they were
+found then.
 """
 
 import argparse
@@ -328,6 +329,31 @@ def double(rng, reference):
             reference.spoilt.pop(block, None)
 
 
+def pile(rng, reference):
+    """Puts more meta files beside the block file of a replica that has no other copy, and perhaps a block file under
+    `current/rbw`: the greatest stamp counts, but where such a file stands the one below it."""
+    block = rng.choice(list(reference.final))
+    stamp, content, volume = reference.final[block]
+    folders = [folder_of(at, block) for at in range(len(reference.shares))]
+    if sum((folder / f"blk_{block}").exists() for folder in folders) != 1:
+        return
+    whole = bytes.fromhex(content)
+    metas = {int(stamp): reference.meta(block)}
+    for _ in range(rng.randint(1, 4)):
+        number = min(max(int(stamp) + rng.randint(-3, 3), 1), 2**63 - 1)
+        metas.setdefault(number, rng.choice([meta_of(2, 512, whole), meta_of(1, 7, whole), b"\0"]))
+    for number, meta in metas.items():
+        (folders[volume] / f"blk_{block}_{number}.meta").write_bytes(meta)
+    written = volume_of(volume) / "current/bp1/current/rbw" / f"blk_{block}"
+    if rng.random() < 0.5:
+        written.parent.mkdir(parents=True, exist_ok=True)
+        written.write_bytes(bytes(rng.choice([0, 1, 500])))
+    numbers = sorted(metas)
+    kept = numbers[-2] if len(numbers) > 1 and written.exists() else numbers[-1]
+    reference.final[block] = (str(kept), content, volume)
+    reference.spoilt[block] = metas[kept]
+
+
 def abandon(rng, reference):
     """Leaves a block file without a meta file: it goes where the block has a replica, and waits elsewhere."""
     block, volume = rng.choice(IDS), rng.randrange(len(reference.shares))
@@ -360,6 +386,8 @@ def compare(seed):
             double(rng, reference)
         if rng.random() < 0.5:
             abandon(rng, reference)
+        if reference.final and rng.random() < 0.5:
+            pile(rng, reference)
 
 
 def killed(shares, lines, seconds):

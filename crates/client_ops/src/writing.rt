@@ -9,6 +9,7 @@ ghost use Rattle.map_model.specs.Sound.{nothing};
 ghost use Rattle.pair_draft.specs.Writers.{writer_of, FailedOf};
 ghost use Rattle.map_model.specs.Stands.{BlockBooks};
 ghost use Rattle.pool_state.specs.Books.{block_books};
+ghost use Rattle.pool_state.specs.Foreign.{LeavesForeign};
 ghost use Rattle.pool_state.specs.Stands.{Stands, StandsForSome};
 ghost use Rattle.pool_state.specs.Tenures.{KeepsWhole, Starts, StartsBooks, ChoosesAsBefore, IsWriterOf, GivesNumber};
 ghost use Rattle.pool_state.specs.Writers.{WriterStands};
@@ -78,6 +79,7 @@ pub fn write_start<D: PoolDisks>(
     ensures numbers { IfOk result (λ op. GivesNumber pool.old pool.new (D.Draft.place (op_writer op).block).number) }
     ensures meta_numbers { IfOk result (λ op. IfSome (op_writer op).meta (λ meta. GivesNumber pool.old pool.new (D.Draft.place meta).number)) }
     ensures goes_on { GoesOn D.PoolDisks pool.old.disks pool.new.disks }
+    ensures foreign { LeavesForeign D.PoolDisks pool.old.disks pool.new.disks }
     ensures failed { IsErrOf result StartFault.Failed → Rose (D.faults pool.old.disks) (D.faults pool.new.disks) }
 {
     match pool.start_write(alloc, id, stamp, len) {
@@ -137,6 +139,7 @@ pub fn op_end<D: PoolDisks>(pool: &mut Pool<D>, filled: Filled<D>) -> OpReply
     ensures books { (id stamp : ℕ) (bytes : List ℕ) → FilledBelongs pool.old id stamp bytes filled →
         BooksEnded (fill_fault filled) result (length bytes) (block_books pool.old.map id) (block_books pool.new.map id) }
     ensures goes_on { GoesOn D.PoolDisks pool.old.disks pool.new.disks }
+    ensures foreign { LeavesForeign D.PoolDisks pool.old.disks pool.new.disks }
     ensures choosing { ChoosesAsBefore pool.old pool.new }
     ensures failed { result ≡ OpReply.Failed → fill_fault filled ≡ None → Rose (D.faults pool.old.disks) (D.faults pool.new.disks) }
 {

@@ -9,3 +9,4 @@ pub mod Marks
 pub mod Looking
 pub mod Places
 pub mod Untold
+pub mod Alone

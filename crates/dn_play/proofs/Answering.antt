@@ -7,8 +7,9 @@ use Rattle.line_io.specs.Written.{AppendsFront}
 use Rattle.line_io.proofs.Appending.{appends_nothing}
 use Rattle.script_lang.specs.declared.LineFault.{LineFault}
 use Rattle.script_lang.specs.declared.LineFault.TheVariants.{Bad, Memory}
-use Rattle.script_lang.specs.declared.Line.{Line}
-use Rattle.script_lang.specs.declared.Line.TheVariants.{Blank, Reopen, Report}
+use Rattle.script_lang.specs.declared.line.Line.{Line}
+use Rattle.script_lang.specs.declared.line.Line.TheVariants.{Blank, Node}
+use Rattle.script_lang.specs.declared.line.NodeLine.TheVariants.{Reopen}
 use Rattle.script_lang.specs.declared.reply.Reply.{Reply}
 use Rattle.script_lang.specs.Reply.{reply_line}
 use Rattle.script_lang.specs.Script.{line_of}
@@ -16,8 +17,9 @@ use Rattle.run_end.specs.declared.ending.Ending.TheVariants.{SinkFault, NoMemory
 use Rattle.run_model.specs.State.{RunState, Turn, last_state}
 use Rattle.run_model.specs.Commands.{Trust}
 use Rattle.run_model.specs.Lines.{Follows}
-use Rattle.run_model.specs.Carrying.{IsKnown, is_on_block, LineCarried, LeavesAllowed, AnyCells}
-use Rattle.run_model.specs.Script.{Script, is_blank, is_carried, script_after, goes_on, prepend}
+use Rattle.run_model.specs.Carrying.{IsKnown, LineCarried, LeavesAllowed, AnyCells}
+use Rattle.run_model.specs.Asking.{is_blank, is_carried}
+use Rattle.run_model.specs.Script.{Script, script_after, goes_on, prepend}
 use Rattle.disk_model.specs.Files.{Files}
 use Rattle.disk_model.specs.Told.{CanLeave}
 use Rattle.disk_model.specs.Causes.{Rose}
@@ -25,7 +27,7 @@ use Rattle.disk_model.specs.Moments.{Passes}
 use Rattle.disk_model.specs.Marks.{Mark, IsLater}
 use Rattle.disk_model.proofs.GoingOn.{passed_none}
 use Rattle.pool_open.specs.declared.opening.ReopenFault.{ReopenFault}
-use Rattle.pool_open.specs.declared.opening.ReopenFault.TheVariants.{Failed, Memory as NoRoom, Later as TwoMetas}
+use Rattle.pool_open.specs.declared.opening.ReopenFault.TheVariants.{Failed, Memory as NoRoom}
 use Rattle.run_end.specs.declared.ending.Ending.{Ending}
 use Rattle.map_model.specs.Cells.{Cells}
 use Rattle.run_model.specs.Images.{AllowedFrom, StaysCrashSafe, LinesCrashSafe}
@@ -35,12 +37,6 @@ use Rattle.dn_play.specs.Answer.{Answered, Unanswered, FirstOfLine, SaysLater, r
 pub not_blank : (line : Line) → (line ≡ Blank → ⊥) → is_blank line ≡ false
 not_blank Blank apart = absurd (apart refl)
 not_blank line apart = refl
-
--- a command on a block
-pub on_block : (line : Line) → is_carried line ≡ true → (line ≡ Reopen → ⊥) → (line ≡ Report → ⊥) → is_on_block line ≡ true
-on_block Reopen is apart no_report = absurd (apart refl)
-on_block Report is apart no_report = absurd (no_report refl)
-on_block line is apart no_report = is
 
 -- a command stands before those behind it
 command_says : (number : ℕ) (line : Line) → is_blank line ≡ false → is_carried line ≡ true → (rest : Script) → goes_on number line rest ≡ prepend (line ∷ []) rest
@@ -225,7 +221,7 @@ module _ {now : Option (List World)} (state : RunState) {before after : Mark} {S
   crashed = record { passes = passes; each = still; sound = λ sound. tt; sound_images = stays.sound_images }
 
   pub unanswered_reopen : {told : Option (List World)} (Faulty : ℕ → ℕ → Type 0) (taken : Option (List ℕ)) (number : ℕ) (text : List ℕ) (fault : ReopenFault) (ending : Ending) → ending ≡ reopen_ending fault →
-      line_of text ≡ Ok Reopen → (fault ≡ Failed → Rose before.faults after.faults) → Unanswered Faulty told state before after taken taken number text ending (LeavesAllowed now) Sound AnyCells past since
+      line_of text ≡ Ok (Node Reopen) → (fault ≡ Failed → Rose before.faults after.faults) → Unanswered Faulty told state before after taken taken number text ending (LeavesAllowed now) Sound AnyCells past since
   unanswered_reopen {told} Faulty taken number text fault ending is e rose =
       subst (λ (x : Ending). Unanswered Faulty told state before after taken taken number text x (LeavesAllowed now) Sound AnyCells past since) (sym is) (by_fault fault rose)
     where
@@ -250,16 +246,5 @@ module _ {now : Option (List World)} (state : RunState) {before after : Mark} {S
         at_mark = inr ((refl, e), counts);
         crash = crashed;
         shows = ([], refl, omega arith);
-        written = appends_nothing taken;
-      }
-      by_fault TwoMetas rose = record {
-        turns = [];
-        shown = [];
-        says = (refl, e);
-        follows = λ trust known. tt;
-        stands = stayed;
-        at_mark = counts;
-        crash = crashed;
-        shows = refl;
         written = appends_nothing taken;
       }

@@ -52,7 +52,6 @@ run_without Faulty since mark told shares input taken taken' ending status is on
         nothing = refl;
         counts = record { faults = omega arith; absences = omega arith; next_number = omega arith; moment = omega arith };
         open_fault = λ e. absurd (cc e);
-        later = λ e. absurd (cc e);
         images = λ start holds image s. alike_start start image (only_start told start image holds (only image s));
         sound = λ start holds sound image s. subst IsSound (sym (only_start told start image holds (only image s))) sound;
       });
@@ -62,6 +61,6 @@ run_without Faulty since mark told shares input taken taken' ending status is on
 
 -- so the status is 4, unless the sink fails
 pub memory_stops : (A B C : Type 0) (ending : Ending) (input : Option (List ℕ)) (status : ℕ) → ending ≡ NoMemory → (status ≡ status_of ending) ⊎ (status ≡ 3) ⊎ (status ≡ 4) → (status ≡ 3 → B) →
-    IfSome input (λ bytes. (status ≡ status_at (script_of bytes).stop) ⊎ (status ≡ 4) ⊎ (status ≡ 8) ⊎ A ⊎ B ⊎ C)
+    IfSome input (λ bytes. (status ≡ status_at (script_of bytes).stop) ⊎ (status ≡ 4) ⊎ A ⊎ B ⊎ C)
 memory_stops A B C ending None status e is sink = tt
-memory_stops A B C ending (Some bytes) status e is sink = elim is [ inl k ↦ inr (inl (k ∙ ap status_of e)) | inr k ↦ elim k [ inl three ↦ inr (inr (inr (inr (inl (sink three))))) | inr four ↦ inr (inl four) ] ]
+memory_stops A B C ending (Some bytes) status e is sink = elim is [ inl k ↦ inr (inl (k ∙ ap status_of e)) | inr k ↦ elim k [ inl three ↦ inr (inr (inr (inl (sink three)))) | inr four ↦ inr (inl four) ] ]

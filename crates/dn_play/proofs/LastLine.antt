@@ -2,8 +2,9 @@
 use Rattle.std.proofs.Common.{◌≡◌, ℕ, ◌≤◌, ◌⊎◌, inl, inr, List, [], ◌∷◌, ◌++◌, refl, ap, sym, ◌∙◌, subst, arith, Option, Some, None, IfSome}
 use Rattle.std.proofs.lemmas.List.{append-nil, append_assoc}
 use Rattle.disk_model.specs.Causes.{Rose}
-use Rattle.script_lang.specs.declared.Line.{Line}
-use Rattle.script_lang.specs.declared.Line.TheVariants.{Reopen}
+use Rattle.script_lang.specs.declared.line.Line.{Line}
+use Rattle.script_lang.specs.declared.line.Line.TheVariants.{Node}
+use Rattle.script_lang.specs.declared.line.NodeLine.TheVariants.{Reopen}
 use Rattle.script_lang.specs.declared.reply.Reply.{Reply}
 use Rattle.run_end.specs.declared.ending.Ending.{Ending}
 use Rattle.run_end.specs.declared.ending.Ending.TheVariants.{Complete, Usage, SourceFault, SinkFault, NoMemory, Outside, OpenFault, Limit, Later, NotCarriedOut}
@@ -21,15 +22,14 @@ use Rattle.dn_play.specs.Play.{Course, Goes, RunsPool, Runs}
 use Rattle.run_session.proofs.Stepping.{rose_from}
 
 -- the commands before an opening again
-before_reopen : (bytes : List ℕ) (commands : List Line) → FirstCommands bytes (commands ++ Reopen ∷ []) → FirstCommands bytes commands
-before_reopen bytes commands h = (Reopen ∷ h.0, h.1 ∙ append_assoc commands (Reopen ∷ []) h.0)
+before_reopen : (bytes : List ℕ) (commands : List Line) → FirstCommands bytes (commands ++ Node Reopen ∷ []) → FirstCommands bytes commands
+before_reopen bytes commands h = (Node Reopen ∷ h.0, h.1 ∙ append_assoc commands (Node Reopen ∷ []) h.0)
 
 -- want of memory for the last line says no less of the counts
 ends_weaker : (input : Option (List ℕ)) (commands : List Line) (ending : Ending) (last end : Mark) → IfSome input (λ bytes. Reads bytes commands ending) →
     EndsAt (NextReopens input commands) ending last end → EndsAt (NextReopens input commands) NoMemory last end
 ends_weaker input commands NoMemory last end read h = h
 ends_weaker input commands OpenFault last end read h = inr (read, h.0)
-ends_weaker input commands NotCarriedOut last end read h = inr (read, h)
 ends_weaker input commands ending last end read h = inl h
 
 -- the lines keep the order of the counts
@@ -46,7 +46,7 @@ reads_weaker bytes commands (Outside line column) h = ([], ap (λ s. s.commands)
 reads_weaker bytes commands (Limit line) h = ([], ap (λ s. s.commands) h ∙ sym (append-nil commands))
 reads_weaker bytes commands (Later line) h = ([], ap (λ s. s.commands) h ∙ sym (append-nil commands))
 reads_weaker bytes commands OpenFault h = before_reopen bytes commands h
-reads_weaker bytes commands NotCarriedOut h = before_reopen bytes commands h
+reads_weaker bytes commands NotCarriedOut h = absurd h
 reads_weaker bytes commands Usage h = absurd h
 reads_weaker bytes commands ending h = h
 
@@ -61,14 +61,13 @@ told_weaker (Some bytes) commands ending h = reads_weaker bytes commands ending 
 -- a run that ends without memory for its last line
 goes_weaker : (Faulty : ℕ → ℕ → Type 0) (since : ℕ → Files → Type 0) (can_leave : Files → Type 0) (course : Course) (ending : Ending) (shown : List Reply) → Goes Faulty since can_leave course ending shown → Goes Faulty since can_leave course NoMemory shown
 goes_weaker Faulty since can_leave course ending shown goes = elim goes [
-  | inl s ↦ inl (record { is_before = inl refl; nothing = s.nothing; counts = s.counts; open_fault = λ e. absurd (cc e); later = λ e. absurd (cc e); images = s.images; sound = s.sound })
+  | inl s ↦ inl (record { is_before = inl refl; nothing = s.nothing; counts = s.counts; open_fault = λ e. absurd (cc e); images = s.images; sound = s.sound })
   | inr r ↦ inr (record {
     first = r.first;
     mark = r.mark;
     turns = r.turns;
     opened = r.opened;
     books = r.books;
-    one_meta = r.one_meta;
     from_start = r.from_start;
     metas_from_start = r.metas_from_start;
     placed_from_start = r.placed_from_start;
@@ -86,7 +85,6 @@ goes_weaker Faulty since can_leave course ending shown goes = elim goes [
     images_at_exit = r.images_at_exit;
     whole_at_exit = r.whole_at_exit;
     whole = r.whole;
-    later = λ e. absurd (cc e);
     sound = r.sound;
   })
 ]
@@ -107,7 +105,7 @@ run_of Faulty since can_leave course taken mid taken' ending status p k = elim k
 -- a run isn't of the endings of other words
 pub not_usage : (Faulty : ℕ → ℕ → Type 0) (since : ℕ → Files → Type 0) (can_leave : Files → Type 0) (course : Course) (shown : List Reply) (ending : Ending) → Goes Faulty since can_leave course ending shown → ending ≡ Usage → ⊥
 not_usage Faulty since can_leave course shown ending goes e = elim goes [
-  | inl s ↦ elim s.is_before [ inl k ↦ absurd (let x : Usage ≡ NoMemory = sym e ∙ k in cc x) | inr k ↦ elim k [ inl j ↦ absurd (let x : Usage ≡ OpenFault = sym e ∙ j in cc x) | inr j ↦ absurd (let x : Usage ≡ NotCarriedOut = sym e ∙ j in cc x) ] ]
+  | inl s ↦ elim s.is_before [ inl k ↦ absurd (let x : Usage ≡ NoMemory = sym e ∙ k in cc x) | inr j ↦ absurd (let x : Usage ≡ OpenFault = sym e ∙ j in cc x) ]
   | inr r ↦ subst IsOfLines e r.of_lines
 ]
 
@@ -130,27 +128,27 @@ rose_in ending first before now rose h k is = elim is [ inl e ↦ rose_to first 
 
 -- the place where the script stops, by the ending of a run
 lines_stop : {A B C : Type 0} (bytes : List ℕ) (commands : List Line) (ending : Ending) (status : ℕ) → IsOfLines ending → Reads bytes commands ending → (ending ≡ SourceFault → status ≡ 2 → A) → (status ≡ 3 → B) → (ending ≡ OpenFault → C) → (status ≡ status_of ending) →
-    (status ≡ status_at (script_of bytes).stop) ⊎ (status ≡ 4) ⊎ (status ≡ 8) ⊎ A ⊎ B ⊎ C
+    (status ≡ status_at (script_of bytes).stop) ⊎ (status ≡ 4) ⊎ A ⊎ B ⊎ C
 lines_stop bytes commands Complete status of_lines h source sink disks is = inl (is ∙ ap (λ s. status_at s.stop) (sym h))
 lines_stop bytes commands Usage status of_lines h source sink disks is = absurd of_lines
-lines_stop bytes commands SourceFault status of_lines h source sink disks is = inr (inr (inr (inl (source refl is))))
-lines_stop bytes commands SinkFault status of_lines h source sink disks is = inr (inr (inr (inr (inl (sink is)))))
+lines_stop bytes commands SourceFault status of_lines h source sink disks is = inr (inr (inl (source refl is)))
+lines_stop bytes commands SinkFault status of_lines h source sink disks is = inr (inr (inr (inl (sink is))))
 lines_stop bytes commands NoMemory status of_lines h source sink disks is = inr (inl is)
 lines_stop bytes commands (Outside line column) status of_lines h source sink disks is = inl (is ∙ ap (λ s. status_at s.stop) (sym h))
-lines_stop bytes commands OpenFault status of_lines h source sink disks is = inr (inr (inr (inr (inr (disks refl)))))
+lines_stop bytes commands OpenFault status of_lines h source sink disks is = inr (inr (inr (inr (disks refl))))
 lines_stop bytes commands (Limit line) status of_lines h source sink disks is = inl (is ∙ ap (λ s. status_at s.stop) (sym h))
-lines_stop bytes commands NotCarriedOut status of_lines h source sink disks is = inr (inr (inl is))
+lines_stop bytes commands NotCarriedOut status of_lines h source sink disks is = absurd of_lines
 lines_stop bytes commands (Later line) status of_lines h source sink disks is = inl (is ∙ ap (λ s. status_at s.stop) (sym h))
 
 stop_of : {A B C : Type 0} (Faulty : ℕ → ℕ → Type 0) (since : ℕ → Files → Type 0) (can_leave : Files → Type 0) (course : Course) (bytes : List ℕ) (ending : Ending) (shown : List Reply) (status : ℕ) → course.input ≡ Some bytes → Goes Faulty since can_leave course ending shown → (status ≡ status_of ending) ⊎ (status ≡ 3) →
     (ending ≡ SourceFault → status ≡ 2 → A) → (status ≡ 3 → B) → (Rose course.entry.faults course.exit.faults → C) →
-    (status ≡ status_at (script_of bytes).stop) ⊎ (status ≡ 4) ⊎ (status ≡ 8) ⊎ A ⊎ B ⊎ C
+    (status ≡ status_at (script_of bytes).stop) ⊎ (status ≡ 4) ⊎ A ⊎ B ⊎ C
 stop_of Faulty since can_leave course bytes ending shown status told goes is source sink disks = elim is [
-  | inr three ↦ inr (inr (inr (inr (inl (sink three)))))
+  | inr three ↦ inr (inr (inr (inl (sink three))))
   | inl k ↦ elim goes [
     | inl s ↦ elim s.is_before [
       | inl e ↦ inr (inl (k ∙ ap status_of e))
-      | inr e ↦ elim e [ inl j ↦ inr (inr (inr (inr (inr (disks (s.open_fault j)))))) | inr j ↦ inr (inr (inl (k ∙ ap status_of j))) ]
+      | inr j ↦ inr (inr (inr (inr (disks (s.open_fault j)))))
     ]
     | inr r ↦ lines_stop bytes (turn_lines r.turns) ending status r.of_lines (subst (λ i. IfSome i (λ input. Reads input (turn_lines r.turns) ending)) told r.read) source sink (λ e. disks (opening_failed Faulty since can_leave course shown ending (inr r) e)) k
   ]
@@ -159,7 +157,7 @@ stop_of Faulty since can_leave course bytes ending shown status told goes is sou
 -- where the source tells its input, the status is that of the place where the script stops, or a cause is known
 pub stops_at : {A B C : Type 0} (Faulty : ℕ → ℕ → Type 0) (since : ℕ → Files → Type 0) (can_leave : Files → Type 0) (entry exit : Mark) (told : _) (shares : List ℕ) (input : Option (List ℕ)) (taken taken' : Option (List ℕ)) (status : ℕ) →
     Runs Faulty since can_leave (record { entry = entry; exit = exit; told = told; shares = shares; input = input }) taken taken' status → (status ≡ 2 → A) → (status ≡ 3 → B) → (Rose entry.faults exit.faults → C) →
-    IfSome input (λ bytes. (status ≡ status_at (script_of bytes).stop) ⊎ (status ≡ 4) ⊎ (status ≡ 8) ⊎ A ⊎ B ⊎ C)
+    IfSome input (λ bytes. (status ≡ status_at (script_of bytes).stop) ⊎ (status ≡ 4) ⊎ A ⊎ B ⊎ C)
 stops_at Faulty since can_leave entry exit told shares None taken taken' status r source sink disks = tt
 stops_at Faulty since can_leave entry exit told shares (Some bytes) taken taken' status r source sink disks =
     stop_of Faulty since can_leave _ bytes r.ending r.shown status refl r.goes r.ends.status_is (λ e two. source two) sink disks

@@ -7,3 +7,4 @@ pub mod OneDisk
 pub mod Judging
 mod PutFiles
 mod FreshImages
+pub mod Foreign

@@ -11,9 +11,7 @@ use Rattle.disk_model.specs.Told.{IsWorldOf, InEachWorld, CanLeave, Leaves}
 use Rattle.disk_model.specs.Moments.{AddsOnly}
 use Rattle.disk_model.specs.Causes.{Rose}
 use Rattle.disk_model.specs.Marks.{GoesOn, mark_of}
-use Rattle.disk_model.proofs.Laws.{only_one, some_world}
-use Rattle.std.proofs.lemmas.Bool.{false≢true}
-use Rattle.pool_open.specs.Remaining.{Remains}
+use Rattle.disk_model.proofs.Laws.{only_one}
 use Rattle.map_model.specs.Cells.{Replica, Cell, Cells, absent, final, waiting}
 use Rattle.map_model.specs.Copies.{BlockFiles, block_files}
 use Rattle.map_model.specs.Allows.{Allows, AllowsImage}
@@ -26,15 +24,15 @@ use Rattle.pool_state.specs.Stands.{PoolStands}
 use Rattle.pool_open.specs.declared.opening.OpenFault.{OpenFault}
 use Rattle.pool_open.specs.Numbering.{ChoosesAnew}
 use Rattle.pool_open.specs.Waiting.{WaitsAs}
-use Rattle.pool_open.specs.Outcome.{KeptOn, HoldsImage, HasTwoMetas, HasSoundFiles, ReadsAsOne, IsOpened, Opens, fault_disks}
+use Rattle.pool_open.specs.Outcome.{KeptOn, HasSoundFiles, ReadsAsOne, IsOpened, Opens, fault_disks}
 use Rattle.run_end.specs.declared.ending.Ending.{Ending}
-use Rattle.run_end.specs.declared.ending.Ending.TheVariants.{OpenFault as OpenFailed, NotCarriedOut}
+use Rattle.run_end.specs.declared.ending.Ending.TheVariants.{OpenFault as OpenFailed}
 use Rattle.run_end.specs.Ending.{status_of}
 use Rattle.run_end.specs.Closing.{Writes}
 use Rattle.run_model.specs.Books.{BooksOpened}
 use Rattle.run_model.specs.Carrying.{LeavesAllowed}
 use Rattle.dn_play.specs.Answer.{Played, IsOfLines}
-use Rattle.dn_play.specs.Play.{Course, IsBeforeOpened, ReadsAlikeUpTo, RunsPool}
+use Rattle.dn_play.specs.Play.{HoldsImage, Course, IsBeforeOpened, ReadsAlikeUpTo, RunsPool}
 use Rattle.dn_play.proofs.Crashes.{counts_on, first_allowed, each_allowed, each_whole}
 use Rattle.run_session.proofs.Opened.{first_of}
 use Rattle.dn_play.proofs.Progress.{known_on}
@@ -55,14 +53,6 @@ only_start told start image holds leaves =
 
 tells : (told : Option (List World)) (start : Files) → HoldsImage told start → IsSome told
 tells told start holds = subst IsSome (sym holds) refl
-
--- disks that remain as they were can still leave the image that they held
-pub left_start : (before after : Option (List World)) (start : Files) → HoldsImage before start → Remains before after → (after ≡ Some [] → ⊥) → (IsSome before → IsSome after) →
-    (CanLeave after start → HasTwoMetas start) → HasTwoMetas start
-left_start before after start holds remains some honest has =
-    let was = some_world after some (honest (tells before start holds)) in
-    let world : fresh start ≡ was.0 = only_fresh before start holds was.0 (remains was.0 was.1) in
-    has (was.0, was.1, subst (λ (w : World). Leaves w start) world (record { drafts = λ vol path there. absurd (false≢true there); settled = λ vol path none. refl }))
 
 -- what reads as the start, the first cells allow
 kind_allows : (files : BlockFiles) (cell : Cell) (replica : Option Replica) → IsOpened cell → MatchOption replica (WaitsExactly files cell) (λ r. cell ≡ final r) → Allows cell replica
@@ -111,10 +101,10 @@ module _ {D S T R : Type 0} (g : Ghosts D S T R) (Faulty : ℕ → ℕ → Type 
   -- nothing was carried out
   pub stops_so : (out known : D) (fault : OpenFault D) (shares : List ℕ) (input taken : Option (List ℕ)) (ending : Ending) → out ≡ known → fault_disks fault ≡ known →
       GoesOn g before (fault_disks fault) → IsBeforeOpened ending → Writes (status_of ending) taken taken [] →
-      (ending ≡ OpenFailed → Rose (g.faults before) (g.faults known)) → (ending ≡ NotCarriedOut → (image : Files) → HoldsImage (g.worlds before) image → HasTwoMetas image) →
+      (ending ≡ OpenFailed → Rose (g.faults before) (g.faults known)) →
       AddsOnly (g.left_since before) (g.left_since (fault_disks fault)) (ReadsAsOne (g.worlds before)) →
       RunsPool Faulty (g.left_since out) (CanLeave (g.worlds out)) (course_between out shares input) taken taken ending
-  stops_so out known fault shares input taken ending is of_fault on early written open_fault later images =
+  stops_so out known fault shares input taken ending is of_fault on early written open_fault images =
       let went : GoesOn g before known = subst (GoesOn g before) of_fault on in
       let reads : AddsOnly (g.left_since before) (g.left_since known) (ReadsAsOne (g.worlds before)) = subst (λ (d : D). AddsOnly (g.left_since before) (g.left_since d) (ReadsAsOne (g.worlds before))) of_fault images in
       subst (λ d. RunsPool Faulty (g.left_since d) (CanLeave (g.worlds d)) (course_between d shares input) taken taken ending) (sym is) (record {
@@ -124,7 +114,6 @@ module _ {D S T R : Type 0} (g : Ghosts D S T R) (Faulty : ℕ → ℕ → Type 
           nothing = refl;
           counts = counts_on went;
           open_fault = open_fault;
-          later = later;
           images = λ start holds image s. reads_start known start holds reads image s;
           sound = λ start holds sound image s. sound_still known start holds sound reads image s;
         });
@@ -137,10 +126,9 @@ module _ {D S T R : Type 0} (g : Ghosts D S T R) (Faulty : ℕ → ℕ → Type 
       (opens : Opens (g.worlds before) (g.worlds mid) volumes books (g.left_since before) (g.left_since mid)) → ((id : ℕ) → IsBlockId id → BooksOpened (length shares) (opens.cells id) (books id)) →
       Played Faulty (g.worlds mid) (first_of opens.cells opens.metas books choosing) (mark_of g mid) (mark_of g after) input taken taken' ending
       (LeavesAllowed (g.worlds after)) (PoolStands (g.worlds mid) volumes books matching) SoundNow (g.left_since mid) (g.left_since after) → IsOfLines ending →
-      ((image : Files) → HoldsImage (g.worlds before) image → HasTwoMetas image → ⊥) → AddsOnly (g.left_since before) (g.left_since mid) (ReadsAsOne (g.worlds before)) →
-      (ending ≡ NotCarriedOut → (image : Files) → CanLeave (g.worlds after) image → HasTwoMetas image) →
+      AddsOnly (g.left_since before) (g.left_since mid) (ReadsAsOne (g.worlds before)) →
       RunsPool Faulty (g.left_since out) (CanLeave (g.worlds out)) (course_between out shares input) taken taken' ending
-  runs_so mid after out {volumes} {books} {SoundNow} choosing shares anew input taken taken' ending is went opens said p of_lines one_meta meanwhile later =
+  runs_so mid after out {volumes} {books} {SoundNow} choosing shares anew input taken taken' ending is went opens said p of_lines meanwhile =
       let since_opening : (start : Files) → HoldsImage (g.worlds before) start → ReadsAlikeUpTo (g.left_since after) (mark_of g before) (mark_of g mid) start = λ start holds image s.
       elim (p.crash.passes.adds (g.moment before) image s) [
         | inl earlier ↦ inl (reads_start mid start holds meanwhile image earlier)
@@ -158,7 +146,6 @@ module _ {D S T R : Type 0} (g : Ghosts D S T R) (Faulty : ℕ → ℕ → Type 
           opened = opens.opened;
           books = said;
           choosing = anew;
-          one_meta = one_meta;
           from_start = made;
           metas_from_start = λ start holds.
               let shows = opens.shown (tells (g.worlds before) start holds) in
@@ -185,7 +172,6 @@ module _ {D S T R : Type 0} (g : Ghosts D S T R) (Faulty : ℕ → ℕ → Type 
           images_at_exit = λ image leaves. (p.stands image leaves).0;
           whole_at_exit = λ image leaves. (p.stands image leaves).1;
           whole = λ image s. each_whole (g.left_since after) (mark_of g mid) (first_of opens.cells opens.metas books choosing) p.turns image p.crash.each s;
-          later = later;
           sound = λ start holds sound image s.
               let worlds_are = sound_start (g.worlds before) start holds sound in
               elim (p.crash.sound_images (opens.stands_by matching worlds_are) (g.moment before) image s) [

@@ -7,13 +7,14 @@ use Rattle.line_io.proofs.Appending.{appends_nothing, appends_append}
 use Rattle.line_io.specs.Lines.{terminated_lines, TakesLine, FirstPassesLimit, OfUnread}
 use Rattle.line_io.specs.declared.lines.ReadFault.{ReadFault}
 use Rattle.line_io.specs.declared.lines.ReadFault.TheVariants.{Source, Limit as LineLimit, Memory}
-use Rattle.script_lang.specs.declared.Line.{Line}
-use Rattle.script_lang.specs.declared.Line.TheVariants.{Reopen}
+use Rattle.script_lang.specs.declared.line.Line.{Line}
+use Rattle.script_lang.specs.declared.line.Line.TheVariants.{Node}
+use Rattle.script_lang.specs.declared.line.NodeLine.TheVariants.{Reopen}
 use Rattle.script_lang.specs.declared.reply.Reply.{Reply}
 use Rattle.script_lang.specs.Reply.{reply_line}
 use Rattle.script_lang.specs.Script.{line_of}
 use Rattle.run_end.specs.declared.ending.Ending.{Ending}
-use Rattle.run_end.specs.declared.ending.Ending.TheVariants.{Complete, SourceFault, SinkFault, NoMemory, Outside, OpenFault, Later, NotCarriedOut}
+use Rattle.run_end.specs.declared.ending.Ending.TheVariants.{Complete, SourceFault, SinkFault, NoMemory, Outside, OpenFault, Later}
 use Rattle.run_end.specs.Ending.{status_of, ending_at}
 use Rattle.run_end.specs.Closing.{Writes}
 use Rattle.run_end.proofs.LastLine.{writes_then}
@@ -21,7 +22,8 @@ use Rattle.run_model.specs.State.{RunState, Turn, turn_lines, turn_replies, last
 use Rattle.run_model.specs.Commands.{Trust, any_disks, telling_disks, sound_disks}
 use Rattle.run_model.specs.Lines.{Follows}
 use Rattle.run_model.specs.Carrying.{IsKnown}
-use Rattle.run_model.specs.Script.{Script, AtEnd, AtOutside, AtLimit, AtLater, stops, script_after, script_from, script_of, prepend, is_blank, is_carried, goes_on}
+use Rattle.run_model.specs.Asking.{is_blank, is_carried}
+use Rattle.run_model.specs.Script.{Script, AtEnd, AtOutside, AtLimit, AtLater, stops, script_after, script_from, script_of, prepend, goes_on}
 use Rattle.dn_play.specs.Endings.{Shows, text_of, Reads, FirstCommands, AllCommands}
 use Rattle.dn_play.specs.Answer.{Answered, Unanswered, FirstOfLine, SaysUpTo, SaysReopen, NextReopens, EndsAt, Played, IsOfLines}
 use Rattle.disk_model.specs.Files.{Files}
@@ -149,10 +151,10 @@ later_stops number line is rest = rw is.0 (rw is.1 refl)
 -- the next line asks for an opening again
 reopen_on : (input left left' : Option (List ℕ)) (pending pending' : List ℕ) (number count count' : ℕ) (text : List ℕ) (commands others : List Line) →
     OfUnread (λ unread rest. script_of unread ≡ prepend commands (script_from number count (terminated_lines rest))) [] input pending left → OfUnread (λ unread rest. TakesLine count unread text count' rest) pending left pending' left' →
-    SaysReopen text others → IfSome input (λ bytes. FirstCommands bytes ((commands ++ others) ++ Reopen ∷ []))
+    SaysReopen text others → IfSome input (λ bytes. FirstCommands bytes ((commands ++ others) ++ Node Reopen ∷ []))
 reopen_on input left left' pending pending' number count count' text commands others h t says =
-    subst (λ (c : List Line). IfSome input (λ bytes. FirstCommands bytes (c ++ Reopen ∷ []))) (sym (ap (λ (o : List Line). commands ++ o) says.0 ∙ append-nil commands))
-    (first_on input left left' pending pending' number count count' text commands (Reopen ∷ []) h t
+    subst (λ (c : List Line). IfSome input (λ bytes. FirstCommands bytes (c ++ Node Reopen ∷ []))) (sym (ap (λ (o : List Line). commands ++ o) says.0 ∙ append-nil commands))
+    (first_on input left left' pending pending' number count count' text commands (Node Reopen ∷ []) h t
     (λ rest. (rest.commands, ap (λ l. (script_after (number + 1) l rest).commands) says.1)))
 
 reads_on : (input left left' : Option (List ℕ)) (pending pending' : List ℕ) (number count count' : ℕ) (text : List ℕ) (commands others : List Line) (ending : Ending) →
@@ -166,7 +168,6 @@ reads_on input left left' pending pending' number count count' text commands oth
     (λ u m r e k. e ∙ ap (prepend commands) (script_by_line number count count' m text r k ∙ ap (λ l. script_after (number + 1) l (script_from (number + 1) count' (terminated_lines r))) says.2)
     ∙ ap (λ (c : List Line). record { commands = commands ++ c; stop = AtOutside (number + 1) column }) (sym says.0)
     ∙ ap (λ (n : ℕ). record { commands = commands ++ others; stop = AtOutside n column }) (sym says.1))
-reads_on input left left' pending pending' number count count' text commands others NotCarriedOut h t says = reopen_on input left left' pending pending' number count count' text commands others h t says
 reads_on input left left' pending pending' number count count' text commands others (Later line) h t says =
     unread_both (λ unread rest. script_of unread ≡ prepend commands (script_from number count (terminated_lines rest))) (λ unread rest. TakesLine count unread text count' rest) (λ bytes. AllCommands bytes (commands ++ others) (AtLater line)) pending pending' input left left' h t
     (λ u m r e k. e ∙ ap (prepend commands) (script_by_line number count count' m text r k ∙ ap (λ l. script_after (number + 1) l (script_from (number + 1) count' (terminated_lines r))) says.2.1 ∙ later_stops (number + 1) says.2.0 (says.2.2, says.2.3) (script_from (number + 1) count' (terminated_lines r)))

@@ -8,10 +8,11 @@ use Rattle.disk_model.specs.declared.disks.Reader as readers
 use Rattle.disk_model.specs.Worlds.{World}
 use Rattle.disk_model.specs.Causes.{Rose}
 use Rattle.pool_open.specs.declared.opening.ReopenFault.{ReopenFault}
-use Rattle.pool_open.specs.declared.opening.ReopenFault.TheVariants.{Failed, Memory as NoRoom, Later as TwoMetas}
+use Rattle.pool_open.specs.declared.opening.ReopenFault.TheVariants.{Failed, Memory as NoRoom}
 use Rattle.script_lang.specs.declared.LineFault.TheVariants.{Bad}
-use Rattle.script_lang.specs.declared.Line.{Line}
-use Rattle.script_lang.specs.declared.Line.TheVariants.{Reopen}
+use Rattle.script_lang.specs.declared.line.Line.{Line}
+use Rattle.script_lang.specs.declared.line.Line.TheVariants.{Node}
+use Rattle.script_lang.specs.declared.line.NodeLine.TheVariants.{Reopen}
 use Rattle.script_lang.specs.declared.reply.Reply.{Reply}
 use Rattle.script_lang.specs.Script.{line_of}
 use Rattle.run_end.specs.declared.ending.Ending.{Ending}
@@ -28,7 +29,8 @@ use Rattle.map_model.specs.Cells.{Cells}
 use Rattle.run_model.specs.Carrying.{IsKnown, LeavesAllowed, AnyCells}
 use Rattle.run_session.specs.declared.session.Session.{Session}
 use Rattle.run_session.specs.Standing.{SoundFor, SessionStands}
-use Rattle.run_model.specs.Script.{Script, is_blank, is_carried, script_after, prepend}
+use Rattle.run_model.specs.Asking.{is_blank, is_carried}
+use Rattle.run_model.specs.Script.{Script, script_after, prepend}
 use Rattle.dn_play.specs.Endings.{Reads, FirstCommands, Shows, text_of}
 
 -- the line's command, if it has one, was carried out, and its reply written
@@ -51,22 +53,20 @@ FirstOfLine number text commands = (rest : Script) → (others : List Line) × (
 abbrev pub EndsAt : (Reopens : Type 0) → Ending → Mark → Mark → Type 0
 EndsAt Reopens NoMemory last end = (last ≡ end) ⊎ (Reopens × IsLater last end)
 EndsAt Reopens OpenFault last end = IsLater last end × Rose last.faults end.faults
-EndsAt Reopens NotCarriedOut last end = IsLater last end
 EndsAt Reopens ending last end = last ≡ end
 
 -- the command behind these asks for the pool to be opened again
 abbrev pub NextReopens : Option (List ℕ) → List Line → Type 0
-NextReopens input commands = IfSome input (λ bytes. FirstCommands bytes (commands ++ Reopen ∷ []))
+NextReopens input commands = IfSome input (λ bytes. FirstCommands bytes (commands ++ Node Reopen ∷ []))
 
 -- the line asks for the pool to be opened again
 abbrev pub SaysReopen : List ℕ → List Line → Type 0
-SaysReopen text commands = (commands ≡ []) × (line_of text ≡ Ok Reopen)
+SaysReopen text commands = (commands ≡ []) × (line_of text ≡ Ok (Node Reopen))
 
 -- how a session ends whose pool was not opened again
 abbrev pub reopen_ending : ReopenFault → Ending
 reopen_ending Failed = OpenFault
 reopen_ending NoRoom = NoMemory
-reopen_ending TwoMetas = NotCarriedOut
 
 -- the line is in the language, and isn't carried out yet
 abbrev pub SaysLater : List ℕ → Type 0
@@ -78,7 +78,6 @@ SaysUpTo number text commands SinkFault = FirstOfLine number text commands
 SaysUpTo number text commands NoMemory = FirstOfLine number text commands
 SaysUpTo number text commands (Outside line column) = (commands ≡ []) × (line ≡ number) × (line_of text ≡ Err (Bad column))
 SaysUpTo number text commands OpenFault = SaysReopen text commands
-SaysUpTo number text commands NotCarriedOut = SaysReopen text commands
 SaysUpTo number text commands (Later line) = (commands ≡ []) × (line ≡ number) × SaysLater text
 SaysUpTo number text commands ending = ⊥
 
@@ -112,6 +111,7 @@ pub record Played (Faulty : ℕ → ℕ → Type 0) (told : Option (List World))
 -- how the lines of a session may end
 abbrev pub IsOfLines : Ending → Type 0
 IsOfLines Usage = ⊥
+IsOfLines NotCarriedOut = ⊥
 IsOfLines ending = ⊤
 
 module _ {D S T R : Type 0} {g : Ghosts D S T R} {d : drafts.Ghosts T S} {s : sealed.Ghosts S} {r : readers.Ghosts R} where

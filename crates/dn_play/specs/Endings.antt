@@ -1,8 +1,9 @@
 -- What a session reads and what it shows.
 use Rattle.std.specs.Prelude.{ℕ, ◌≡◌, ◌≤◌, List, [], ◌∷◌, ◌++◌, length}
 use Rattle.std.specs.List.{flat_map}
-use Rattle.script_lang.specs.declared.Line.{Line}
-use Rattle.script_lang.specs.declared.Line.TheVariants.{Reopen}
+use Rattle.script_lang.specs.declared.line.Line.{Line}
+use Rattle.script_lang.specs.declared.line.Line.TheVariants.{Node}
+use Rattle.script_lang.specs.declared.line.NodeLine.TheVariants.{Reopen}
 use Rattle.script_lang.specs.declared.reply.Reply.{Reply}
 use Rattle.script_lang.specs.Reply.{reply_line}
 use Rattle.run_end.specs.declared.ending.Ending.{Ending}
@@ -35,8 +36,8 @@ Reads bytes commands Complete = AllCommands bytes commands AtEnd
 Reads bytes commands (Outside line column) = AllCommands bytes commands (AtOutside line column)
 Reads bytes commands (Limit line) = AllCommands bytes commands (AtLimit line)
 Reads bytes commands (Later line) = AllCommands bytes commands (AtLater line)
-Reads bytes commands OpenFault = FirstCommands bytes (commands ++ Reopen ∷ [])
-Reads bytes commands NotCarriedOut = FirstCommands bytes (commands ++ Reopen ∷ [])
+Reads bytes commands OpenFault = FirstCommands bytes (commands ++ Node Reopen ∷ [])
+Reads bytes commands NotCarriedOut = ⊥
 Reads bytes commands Usage = ⊥
 Reads bytes commands ending = FirstCommands bytes commands
 

@@ -1,5 +1,5 @@
 -- What a run does with its disks, its input and its output.
-use Rattle.std.specs.Prelude.{ℕ, ◌≡◌, ◌⊎◌, List, [], ◌∷◌, length, Option, IfSome}
+use Rattle.std.specs.Prelude.{ℕ, ◌≡◌, ◌⊎◌, List, [], ◌∷◌, length, Option, Some, IfSome}
 use Rattle.disk_model.specs.declared.disks.PoolDisks.{Ghosts}
 use Rattle.disk_model.specs.declared.disks.Draft as drafts
 use Rattle.disk_model.specs.declared.disks.Reader as readers
@@ -17,10 +17,10 @@ use Rattle.map_model.specs.Slots.{view_of}
 use Rattle.map_model.specs.Sound.{exactly, Fits, IsSoundBy, IsSound}
 use Rattle.pool_open.specs.Numbering.{ChoosesAnew}
 use Rattle.pool_open.specs.Waiting.{WaitsAs}
-use Rattle.pool_open.specs.Outcome.{HoldsImage, HasTwoMetas, KeptOn, IsOpened}
+use Rattle.pool_open.specs.Outcome.{KeptOn, IsOpened}
 use Rattle.script_lang.specs.declared.reply.Reply.{Reply}
 use Rattle.run_end.specs.declared.ending.Ending.{Ending}
-use Rattle.run_end.specs.declared.ending.Ending.TheVariants.{NoMemory, OpenFault, NotCarriedOut}
+use Rattle.run_end.specs.declared.ending.Ending.TheVariants.{NoMemory, OpenFault}
 use Rattle.run_end.specs.Ending.{status_of}
 use Rattle.run_end.specs.Closing.{Writes, Ends}
 use Rattle.run_model.specs.State.{RunState, Turn, turn_lines, turn_replies, last_state, last_mark}
@@ -41,23 +41,25 @@ pub record Course : Type 0 where
   pub shares : List ℕ
   pub input : Option (List ℕ)
 
+-- the disks tell that they hold this image, without drafts
+abbrev pub HoldsImage : Option (List World) → Files → Type 0
+HoldsImage told image = told ≡ Some (record { settled = image; drafts = [] } ∷ [])
+
 -- the disks tell one image, in which the meta file of each copy that is read matches its bytes
 abbrev pub BeginsSound : Option (List World) → Type 0
 BeginsSound told = (start : Files) × HoldsImage told start × IsSound start
 
 -- the endings of a run whose opening isn't done
 abbrev pub IsBeforeOpened : Ending → Type 0
-IsBeforeOpened ending = (ending ≡ NoMemory) ⊎ ((ending ≡ OpenFault) ⊎ (ending ≡ NotCarriedOut))
+IsBeforeOpened ending = (ending ≡ NoMemory) ⊎ (ending ≡ OpenFault)
 
--- The opening wasn't done, and nothing was carried out: it failed, or memory was wanting, or two metas of a block
--- stand. Every image that a crash could leave since the entry reads as the one at the beginning, and is sound where
--- that is.
+-- The opening wasn't done, and nothing was carried out: it failed, or memory was wanting. Every image that a crash could
+-- leave since the entry reads as the one at the beginning, and is sound where that is.
 pub record StopsUnopened (since : ℕ → Files → Type 0) (course : Course) (ending : Ending) (shown : List Reply) : Type 0 where
   pub is_before : IsBeforeOpened ending
   pub nothing : shown ≡ []
   pub counts : IsLater course.entry course.exit
   pub open_fault : ending ≡ OpenFault → Rose course.entry.faults course.exit.faults
-  pub later : ending ≡ NotCarriedOut → (start : Files) → HoldsImage course.told start → HasTwoMetas start
   pub images : (start : Files) → HoldsImage course.told start → (image : Files) → since course.entry.moment image → ReadsAlike (block_files start) image
   pub sound : (start : Files) → HoldsImage course.told start → IsSound start → (image : Files) → since course.entry.moment image → IsSound image
 
@@ -76,7 +78,7 @@ ReadsAlikeUpTo since from to start = (image : Files) → since from.moment image
 -- since the last line's end, the cells after it allow, and so does each image that can be left at the exit. Of each
 -- block that has a copy in an image that a crash could leave since the opening's end, one whole copy stands alone.
 -- Where the image at the entry is sound, so is each that a crash could leave since then. The run may end at an opening
--- again that isn't done; where that is because two metas of a block stand, they stand in each image that can be left.
+-- again that isn't done.
 pub record RunsLines (Faulty : ℕ → ℕ → Type 0) (since : ℕ → Files → Type 0) (can_leave : Files → Type 0) (course : Course) (ending : Ending) (shown : List Reply) : Type 0 where
   pub first : RunState
   pub mark : Mark
@@ -84,7 +86,6 @@ pub record RunsLines (Faulty : ℕ → ℕ → Type 0) (since : ℕ → Files �
   pub opened : (id : ℕ) → IsBlockId id → IsOpened (first.cells id)
   pub books : (id : ℕ) → IsBlockId id → BooksOpened (length course.shares) (first.cells id) (first.books id)
   pub choosing : ChoosesAnew course.shares 1 first.books first.choosing
-  pub one_meta : (start : Files) → HoldsImage course.told start → HasTwoMetas start → ⊥
   pub from_start : (start : Files) → HoldsImage course.told start → MakesCells (block_files start) first.cells
   pub metas_from_start : (start : Files) → HoldsImage course.told start → IsSoundBy (Fits (exactly first.metas)) start
   pub placed_from_start : (start : Files) → HoldsImage course.told start →
@@ -103,7 +104,6 @@ pub record RunsLines (Faulty : ℕ → ℕ → Type 0) (since : ℕ → Files �
   pub images_at_exit : (image : Files) → can_leave image → AllowsImage (last_state first turns).cells image
   pub whole_at_exit : (image : Files) → can_leave image → OneWhole image
   pub whole : (image : Files) → since mark.moment image → OneWhole image
-  pub later : ending ≡ NotCarriedOut → (image : Files) → can_leave image → HasTwoMetas image
   pub sound : (start : Files) → HoldsImage course.told start → IsSound start → (image : Files) → since course.entry.moment image → IsSound image
 
 -- a run stops before the opening is done, or runs the lines

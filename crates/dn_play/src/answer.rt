@@ -4,10 +4,11 @@ ghost use Rattle.disk_model.specs.Causes.{Rose};
 ghost use Rattle.disk_model.specs.Files.{Files};
 ghost use Rattle.disk_model.specs.Told.{CanLeave};
 ghost use Rattle.disk_model.specs.Marks.{GoesOn};
-ghost use Rattle.pool_open.specs.Outcome.{HasTwoMetas};
+ghost use Rattle.pool_state.specs.Foreign.{LeavesForeign};
 ghost use Rattle.pool_open.specs.declared.opening.ReopenFault.{ReopenFault};
-ghost use Rattle.script_lang.specs.declared.Line.TheVariants.{Reopen};
-ghost use Rattle.run_model.specs.Script.{is_carried};
+ghost use Rattle.script_lang.specs.declared.line.Line.TheVariants.{Node};
+ghost use Rattle.script_lang.specs.declared.line.NodeLine.TheVariants.{Reopen};
+ghost use Rattle.run_model.specs.Asking.{is_carried};
 ghost use Rattle.run_model.specs.State.{RunState};
 ghost use Rattle.run_model.specs.Images.{StaysCrashSafe};
 ghost use Rattle.run_session.specs.Standing.{SessionStands, SoundFor, SessionStandsForSome, SessionCarriesLine};
@@ -19,7 +20,7 @@ use pool_open::ReopenFault;
 use run_end::Ending;
 use run_session::Session;
 use script_lang::reply::{Reply, write_reply};
-use script_lang::{Line, LineFault, read_line};
+use script_lang::{ClientLine, Line, LineFault, NodeLine, read_line};
 use std::alloc::Global;
 
 /// Whether a line asks for something that is carried out.
@@ -27,15 +28,8 @@ fn is_carried_out(line: &Line) -> bool
     ensures { result ≡ is_carried line.now }
 {
     match line {
-        Line::Open { .. }
-        | Line::Push { .. }
-        | Line::Finish { .. }
-        | Line::Drop { .. }
-        | Line::Write { .. }
-        | Line::Read { .. }
-        | Line::Delete { .. }
-        | Line::Reopen
-        | Line::Report => true,
+        Line::Client(ClientLine::Grow { .. } | ClientLine::Append { .. }) => false,
+        Line::Client(_) | Line::Node(NodeLine::Reopen | NodeLine::Report) => true,
         _ => false,
     }
 }
@@ -56,7 +50,6 @@ fn reopen_ending_of(fault: ReopenFault) -> Ending
     match fault {
         ReopenFault::Failed => Ending::OpenFault,
         ReopenFault::Memory => Ending::NoMemory,
-        ReopenFault::Later => Ending::NotCarriedOut,
     }
 }
 
@@ -74,22 +67,23 @@ fn carry_out<D: PoolDisks>(
     ensures err { (state : RunState) → SessionStands session.old state →
         OnErr result (StaysCrashSafe state.cells (SoundFor session.old)
         (D.left_since session.old.pool.disks) (D.left_since session.new.pool.disks)) }
-    ensures reopens { (fault : ReopenFault) → result ≡ Err (CarryFault.Reopen fault) → line ≡ Reopen }
+    ensures reopens { (fault : ReopenFault) → result ≡ Err (CarryFault.Reopen fault) → line ≡ Node Reopen }
     ensures failed { result ≡ Err (CarryFault.Reopen ReopenFault.Failed) → Rose (D.faults session.old.pool.disks) (D.faults session.new.pool.disks) }
-    ensures two_metas { result ≡ Err (CarryFault.Reopen ReopenFault.Later) → (image : Files) → CanLeave (D.worlds session.new.pool.disks) image → HasTwoMetas image }
     ensures unchanged { IsErrOf result CarryFault.Memory → session.new ≡ session.old }
     ensures goes_on { GoesOn D.PoolDisks session.old.pool.disks session.new.pool.disks }
+    ensures foreign { LeavesForeign D.PoolDisks session.old.pool.disks session.new.pool.disks }
 {
     match line {
-        Line::Reopen => match session.reopen(alloc) {
+        Line::Node(NodeLine::Reopen) => match session.reopen(alloc) {
             Ok(()) => Ok(Reply::Done),
             Err(fault) => Err(CarryFault::Reopen(fault)),
         },
-        Line::Report => match session.report(alloc) {
+        Line::Node(NodeLine::Report) => match session.report(alloc) {
             Ok(reply) => Ok(reply),
             Err(_) => Err(CarryFault::Memory),
         },
-        command => Ok(session.carry_out(alloc, command)),
+        Line::Client(line) => Ok(session.carry_out(alloc, line)),
+        _ => unreachable!(),
     }
 }
 
@@ -107,8 +101,8 @@ pub fn answer<D: PoolDisks, K: Sink>(
     ensures err { (state : RunState) → SessionStands session.old state → IfErr result (λ ending.
         SessionStops state number text.now (K.taken sink.old) (K.taken sink.new) ending session.old session.new) }
     ensures of_lines { IfErr result IsOfLines }
-    ensures two_metas { IsErrOf result Ending.NotCarriedOut → (image : Files) → CanLeave (D.worlds session.new.pool.disks) image → HasTwoMetas image }
     ensures goes_on { GoesOn D.PoolDisks session.old.pool.disks session.new.pool.disks }
+    ensures foreign { LeavesForeign D.PoolDisks session.old.pool.disks session.new.pool.disks }
     ensures sink { IsErrOf result Ending.SinkFault → Rose (K.faults sink.old) (K.faults sink.new) }
     ensures later { K.faults sink.old ≤ K.faults sink.new }
 {

@@ -5,7 +5,7 @@ ghost use Rattle.disk_model.specs.Causes.{Rose};
 ghost use Rattle.disk_model.specs.Files.{Files};
 ghost use Rattle.disk_model.specs.Told.{CanLeave};
 ghost use Rattle.disk_model.specs.Marks.{GoesOn};
-ghost use Rattle.pool_open.specs.Outcome.{HasTwoMetas};
+ghost use Rattle.pool_state.specs.Foreign.{LeavesForeign};
 ghost use Rattle.run_model.specs.State.{RunState};
 ghost use Rattle.run_session.specs.Standing.{SessionStands, SessionStandsForSome};
 ghost use Rattle.dn_play.specs.Answer.{SessionPlays, IsOfLines};
@@ -31,8 +31,8 @@ pub fn play_lines<D: PoolDisks, S: Source, K: Sink>(
     ensures played { (state : RunState) → SessionStands session.old state →
         SessionPlays state (S.left source.old) (K.taken sink.old) (K.taken sink.new) result session.old session.new }
     ensures goes_on { GoesOn D.PoolDisks session.old.pool.disks session.new.pool.disks }
+    ensures foreign { LeavesForeign D.PoolDisks session.old.pool.disks session.new.pool.disks }
     ensures of_lines { IsOfLines result }
-    ensures two_metas { result ≡ Ending.NotCarriedOut → (image : Files) → CanLeave (D.worlds session.new.pool.disks) image → HasTwoMetas image }
     ensures at_end { result ≡ Ending.Complete → IsAtEnd (S.left source.new) }
     ensures source { result ≡ Ending.SourceFault → Rose (S.faults source.old) (S.faults source.new) }
     ensures sink { result ≡ Ending.SinkFault → Rose (K.faults sink.old) (K.faults sink.new) }

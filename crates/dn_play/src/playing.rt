@@ -8,6 +8,7 @@ ghost use Rattle.run_end.specs.Closing.{Declines};
 ghost use Rattle.run_model.specs.Script.{script_of};
 ghost use Rattle.dn_play.specs.Endings.{status_at};
 ghost use Rattle.dn_play.specs.Outside.{words_fit, words_are_later, shares_in};
+ghost use Rattle.dn_play.specs.Foreign.{KeepsForeign};
 ghost use Rattle.dn_play.specs.Play.{RunsOver, OfOne};
 
 use crate::pool_run::play_pool;
@@ -49,13 +50,16 @@ pub fn play<D: PoolDisks, S: Source, K: Sink>(
     ensures run { words_fit D.volume_count (map string_bytes words.now) disks.items ≡ true → words_are_later (map string_bytes words.now) ≡ false →
         OfOne disks.items result.disks.items (λ before after. RunsOver D.PoolDisks D.Draft.Draft D.Reader.Reader
         (shares_in (map string_bytes words.now)) (S.left source.old) (K.taken sink.old) (K.taken sink.new) result.status before after) }
+    // What isn't a block's stays, in every image that a crash could leave.
+    ensures foreign { words_fit D.volume_count (map string_bytes words.now) disks.items ≡ true → words_are_later (map string_bytes words.now) ≡ false →
+        OfOne disks.items result.disks.items (λ before after. KeepsForeign D.PoolDisks before after) }
     ensures at_end { result.status ≡ 0 → IsAtEnd (S.left source.new) }
     ensures source_fault { result.status ≡ 2 → Rose (S.faults source.old) (S.faults source.new) }
     ensures sink_fault { result.status ≡ 3 → Rose (K.faults sink.old) (K.faults sink.new) }
     ensures open_fault { result.status ≡ 6 → OfOne disks.items result.disks.items (λ before after. Rose (D.faults before) (D.faults after)) }
-    // Where no count rises, the status is that of the place where the script stops, unless memory is wanting or two metas of a block stand.
+    // Where no count rises, the status is that of the place where the script stops, unless memory is wanting.
     ensures complete { words_fit D.volume_count (map string_bytes words.now) disks.items ≡ true → words_are_later (map string_bytes words.now) ≡ false → IfSome (S.left source.old) (λ input.
-        (result.status ≡ status_at (script_of input).stop) ⊎ (result.status ≡ 4) ⊎ (result.status ≡ 8)
+        (result.status ≡ status_at (script_of input).stop) ⊎ (result.status ≡ 4)
         ⊎ Rose (S.faults source.old) (S.faults source.new) ⊎ Rose (K.faults sink.old) (K.faults sink.new)
         ⊎ OfOne disks.items result.disks.items (λ before after. Rose (D.faults before) (D.faults after))) }
     // As many disks come back, with their volumes.

@@ -4,6 +4,7 @@ ghost use Rattle.std.specs.Io.KnownBytes.{IsAtEnd};
 ghost use Rattle.disk_model.specs.Causes.{Rose};
 ghost use Rattle.disk_model.specs.Told.{InEachWorld};
 ghost use Rattle.map_model.specs.World.{DraftsAside};
+ghost use Rattle.pool_state.specs.Foreign.{LeavesForeign};
 ghost use Rattle.dn_play.specs.Play.{RunsPoolOver};
 
 use crate::lines::play_lines;
@@ -34,6 +35,7 @@ pub fn play_pool<D: PoolDisks, S: Source, K: Sink>(
     requires shares { length shares.items ≡ D.volume_count disks }
     ensures runs { RunsPoolOver D.PoolDisks D.Draft.Draft D.Reader.Reader
         shares.items (S.left source.old) (K.taken sink.old) (K.taken sink.new) result.ending disks result.disks }
+    ensures foreign { LeavesForeign D.PoolDisks disks result.disks }
     ensures at_end { result.ending ≡ Ending.Complete → IsAtEnd (S.left source.new) }
     ensures source { result.ending ≡ Ending.SourceFault → Rose (S.faults source.old) (S.faults source.new) }
     ensures sink { result.ending ≡ Ending.SinkFault → Rose (K.faults sink.old) (K.faults sink.new) }
@@ -48,10 +50,6 @@ pub fn play_pool<D: PoolDisks, S: Source, K: Sink>(
         },
         Err(OpenFault::Memory(disks)) => return PoolRun {
             ending: Ending::NoMemory,
-            disks,
-        },
-        Err(OpenFault::Later(disks)) => return PoolRun {
-            ending: Ending::NotCarriedOut,
             disks,
         },
     };

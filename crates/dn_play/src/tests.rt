@@ -376,12 +376,16 @@ fn stored_disks(alloc: Global) -> Result<Vec<MemDisks>, AllocError>
     only(alloc, disk)
 }
 
-// Disks of one volume with block 5 beside two metas.
-fn doubtful_disks(alloc: Global) -> Result<Vec<MemDisks>, AllocError>
+// Disks of one volume with block 5 beside metas of three stamps, and one more file.
+fn doubtful_disks(alloc: Global, written: &str) -> Result<Vec<MemDisks>, AllocError>
     ensures aside { IfOk result (λ disks. All (λ d. InEachWorld (⟦<MemDisks as PoolDisks>⟧.worlds d) DraftsAside) disks.items) }
 {
     let mut disk = MemDisks::empty(alloc, 1)?;
-    put_file(&mut disk, "current/finalized/subdir0/subdir0/blk_5", b"")?;
+    put_file(
+        &mut disk,
+        "current/finalized/subdir0/subdir0/blk_5",
+        b"hello",
+    )?;
     put_file(
         &mut disk,
         "current/finalized/subdir0/subdir0/blk_5_1001.meta",
@@ -390,21 +394,38 @@ fn doubtful_disks(alloc: Global) -> Result<Vec<MemDisks>, AllocError>
     put_file(
         &mut disk,
         "current/finalized/subdir0/subdir0/blk_5_1002.meta",
-        b"",
+        &[0, 1, 0, 0, 0, 2, 0],
     )?;
+    put_file(
+        &mut disk,
+        "current/finalized/subdir0/subdir0/blk_5_1003.meta",
+        &[0, 1, 0, 0, 0, 2, 0],
+    )?;
+    put_file(&mut disk, written, b"hello!")?;
     only(alloc, disk)
 }
 
 #[test]
-fn two_metas_of_a_block_end_a_run(rt: HostRuntime) -> Result<(), Fail> {
+fn several_metas_are_brought_down_to_one(rt: HostRuntime) -> Result<(), Fail> {
     let alloc = rt.alloc();
     let words = words_of(alloc, WORDS)?;
-    let disks = doubtful_disks(alloc)?;
-    let mut source = MemSource::make(b"read 5\n".to_vec(alloc)?);
-    let mut sink = MemSink::make(alloc);
-    let run = play(alloc, words.as_slice(), disks, &mut source, &mut sink);
-    assert_eq!(rt; run.status, 8);
-    assert_eq!(rt; sink.bytes(), b"end later 0\n".as_slice());
+    for (written, replies) in [
+        (
+            "current/rbw/blk_6",
+            "data 1003 68656c6c6f\nok\ndata 1003 68656c6c6f\n",
+        ),
+        (
+            "current/rbw/blk_5",
+            "data 1002 68656c6c6f\nok\ndata 1002 68656c6c6f\n",
+        ),
+    ] {
+        let disks = doubtful_disks(alloc, written)?;
+        let mut source = MemSource::make(b"read 5\nreopen\nread 5\n".to_vec(alloc)?);
+        let mut sink = MemSink::make(alloc);
+        let run = play(alloc, words.as_slice(), disks, &mut source, &mut sink);
+        assert_eq!(rt; run.status, 0);
+        assert_eq!(rt; sink.bytes(), replies.as_bytes());
+    }
     Ok(())
 }
 

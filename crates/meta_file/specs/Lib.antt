@@ -4,3 +4,4 @@ pub mod Tables
 pub mod Headers
 pub mod Sums
 pub mod Verdicts
+pub mod Texts

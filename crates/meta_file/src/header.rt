@@ -1,9 +1,11 @@
 //! The headers of meta files: seven bytes, numbers big-endian.
-ghost use Rattle.std.specs.Prelude.{◌≡◌, ◌≤◌, ◌++◌, Ok, IfOk, IfErr, length, take, drop};
+ghost use Rattle.std.specs.Prelude.{◌≡◌, ◌≤◌, ◌++◌, Ok, Some, IfOk, IfErr, length, take, drop};
 ghost use Rattle.meta_file.specs.Checksums.{HeaderIs, big_endian};
 ghost use Rattle.meta_file.specs.Headers.{IsHeader, IsHeaderFault, header_of, header_bytes};
+ghost use Rattle.meta_file.specs.Texts.{fault_text};
 
 use byteorder::{BigEndian, ByteOrder};
+use std::fmt;
 
 /// How many bytes a header has.
 const HEADER_LEN: usize = 7;
@@ -26,14 +28,27 @@ pub struct Header {
 /// Why a meta file has no header.
 #[derive(Clone, Copy, Debug, PartialEq, Eq)]
 pub enum MetaFault {
-    /// It has fewer than seven bytes: so many.
+    /// `short HAVE`: it has HAVE bytes, which are fewer than seven.
     Short { have: u64 },
-    /// Its version isn't 1.
+    /// `version V`: its version isn't 1.
     Version { v: u16 },
-    /// Its type is none of 0, 1 and 2.
+    /// `type T`: its type is none of 0, 1 and 2.
     Kind { t: u8 },
-    /// Its number of bytes a checksum is 0 or above 1,048,576.
+    /// `step N`: its number of bytes a checksum is 0 or above 1,048,576.
     Step { n: u32 },
+}
+
+impl fmt::Display for MetaFault {
+    ghost output = { λ part. Some (fault_text part) };
+
+    fn fmt<W: fmt::Write>(&self, f: &mut fmt::Formatter<W>) -> fmt::Result {
+        match self {
+            MetaFault::Short { have } => write!(f, "short {have}"),
+            MetaFault::Version { v } => write!(f, "version {v}"),
+            MetaFault::Kind { t } => write!(f, "type {t}"),
+            MetaFault::Step { n } => write!(f, "step {n}"),
+        }
+    }
 }
 
 /// The big-endian number of two bytes.

@@ -11,9 +11,11 @@ ghost use Rattle.disk_model.specs.Names.{IsBelow, IsInOrder};
 ghost use Rattle.disk_model.specs.Causes.{Rose, HasCause};
 ghost use Rattle.disk_model.specs.Untold.{untold_is_disk, untold_stands_within, untold_leaves_nothing};
 
-use crate::listing::file_names;
+use crate::listed_sizes::{ListedFile, ListedSizes};
+use crate::listing::files_in;
 use crate::os_files::{OsDraft, OsReader, OsSealed};
 use crate::volume_locks::VolumeLocks;
+use crate::ways::SeenWay;
 use crate::{durable, kinds};
 use disk_model::{DiskError, Failed, Names, PoolDisks};
 use std::alloc::{AllocError, Global};
@@ -32,6 +34,8 @@ pub struct OsDisks {
     roots: Vec<String>,
     path: String,
     other: String,
+    way: SeenWay,
+    sizes: ListedSizes,
     next_number: u64,
     faults: u64,
     absences: u64,
@@ -61,10 +65,10 @@ fn make_all(rt: &HostRuntime, roots: &[String], dirs: &[&str]) -> bool {
     are_made
 }
 
-/// A buffer for the real paths of these directories' files.
-fn path_buffer(alloc: Global, roots: &[String]) -> Result<String, AllocError> {
+/// How many bytes the longest real path of these directories' files has.
+fn longest_path(roots: &[String]) -> usize {
     let longest = roots.iter().map(|root| root.len()).max().unwrap_or(0);
-    String::with_capacity(alloc, longest.saturating_add(LONGEST_PATH + 2))
+    longest.saturating_add(LONGEST_PATH + 2)
 }
 
 /// Puts the real path of a pool's file into a buffer, and answers from which byte on the path is the pool's. It takes no
@@ -105,14 +109,13 @@ fn is_after_last(names: &Names, name: &str) -> bool
 }
 
 /// The names in order, each once.
-fn in_order(alloc: Global, mut texts: Vec<String>) -> Result<Names, AllocError>
+fn in_order(alloc: Global, files: &[ListedFile]) -> Result<Names, AllocError>
     ensures { IfOk result (λ names. IsInOrder names) }
 {
-    texts.sort_unstable();
     let mut names = Names::make(alloc);
-    for text in &texts {
-        if is_after_last(&names, text.as_str()) {
-            names.push(text.as_str())?;
+    for file in files {
+        if is_after_last(&names, file.name.as_str()) {
+            names.push(file.name.as_str())?;
         }
     }
     Ok(names)
@@ -135,8 +138,10 @@ impl OsDisks {
         let alloc = rt.alloc();
         let locks = locks.clone()?;
         let roots = pool_roots(alloc, pool, dirs)?;
-        let path = path_buffer(alloc, roots.as_slice())?;
-        let other = path_buffer(alloc, roots.as_slice())?;
+        let longest = longest_path(roots.as_slice());
+        let path = String::with_capacity(alloc, longest)?;
+        let other = String::with_capacity(alloc, longest)?;
+        let way = SeenWay::with_capacity(alloc, longest)?;
         let is_unmade = !(locks.are_held() && make_all(&rt, roots.as_slice(), dirs));
         Ok(OsDisks {
             rt,
@@ -144,11 +149,21 @@ impl OsDisks {
             roots,
             path,
             other,
+            way,
+            sizes: ListedSizes::none(alloc),
             next_number: 0,
             faults: 0,
             absences: 0,
             is_unmade,
         })
+    }
+
+    /// Forgets what listings saw.
+    fn forget(&mut self)
+        ensures rest { self.new ≡ record self.old { way = self.new.way; sizes = self.new.sizes } }
+    {
+        self.way.forget();
+        self.sizes.forget();
     }
 
     /// Counts a call that failed.
@@ -235,8 +250,12 @@ impl PoolDisks for OsDisks {
         if is_unmade {
             return Err(self.fail_disk());
         }
-        match file_names(&self.rt, alloc, self.path.as_str(), below) {
-            Ok(names) => Ok(in_order(alloc, names)?),
+        match files_in(&self.rt, alloc, &mut self.way, self.path.as_str(), below) {
+            Ok(mut files) => {
+                files.sort_unstable();
+                self.sizes.see(self.path.as_str(), files.as_slice())?;
+                Ok(in_order(alloc, files.as_slice())?)
+            }
             Err(error) if error.kind() == ErrorKind::OutOfMemory => Err(DiskError::Memory),
             Err(_) => Err(self.fail_disk()),
         }
@@ -244,7 +263,10 @@ impl PoolDisks for OsDisks {
 
     fn size(&mut self, vol: u8, path: &str) -> Result<Option<u64>, Failed> {
         let below = self.locate(vol, path)?;
-        match kinds::find_below(&self.rt, self.path.as_str(), below) {
+        if let Some(len) = self.sizes.size(self.path.as_str()) {
+            return Ok(Some(len));
+        }
+        match self.way.find(&self.rt, self.path.as_str(), below) {
             Ok(Some(metadata)) => Ok(Some(metadata.len())),
             Ok(None) => {
                 self.absences = self.absences.saturating_add(1);
@@ -261,6 +283,7 @@ impl PoolDisks for OsDisks {
         path: &str,
     ) -> Result<Option<OsReader>, DiskError> {
         let number = self.next_number;
+        self.forget();
         let Ok(below) = self.locate(vol, path) else {
             return Err(DiskError::Failed);
         };
@@ -286,6 +309,7 @@ impl PoolDisks for OsDisks {
 
     fn create(&mut self, alloc: Global, vol: u8, path: &str) -> Result<OsDraft, DiskError> {
         let number = self.next_number;
+        self.forget();
         let Ok(below) = self.locate(vol, path) else {
             return Err(DiskError::Failed);
         };
@@ -305,6 +329,7 @@ impl PoolDisks for OsDisks {
     }
 
     fn publish(&mut self, sealed: OsSealed, path: &str) -> Result<(), Failed> {
+        self.forget();
         let OsSealed {
             vol,
             path: from,
@@ -327,6 +352,7 @@ impl PoolDisks for OsDisks {
     }
 
     fn remove(&mut self, vol: u8, path: &str) -> Result<(), Failed> {
+        self.forget();
         let below = self.locate(vol, path)?;
         if durable::remove(&self.rt, self.path.as_str(), below).is_err() {
             return Err(self.fail());

@@ -5,10 +5,12 @@
 mod directories;
 mod durable;
 mod kinds;
+mod listed_sizes;
 mod listing;
 mod os_files;
 mod standard_streams;
 mod volume_locks;
+mod ways;
 
 pub use directories::OsDisks;
 pub use os_files::{OsDraft, OsReader, OsSealed};

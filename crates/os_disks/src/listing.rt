@@ -1,26 +1,38 @@
 //! Directories that are listed.
-use crate::kinds::{has_directory, has_way};
+use crate::kinds::has_directory;
+use crate::listed_sizes::ListedFile;
+use crate::ways::SeenWay;
 use std::alloc::Global;
 use std::fs;
 use std::io::{ErrorKind, Result};
 
-/// The names of the files of a directory, in no order. Those of all else, as directories and links, are passed over. An
-/// absent directory has none. Neither it nor a directory that its path names behind its first `below` bytes is a link.
-pub fn file_names(rt: &HostRuntime, alloc: Global, dir: &str, below: usize) -> Result<Vec<String>> {
-    let mut names = Vec::new(alloc);
-    if !(has_way(rt, dir, below)? && has_directory(rt, dir)?) {
-        return Ok(names);
+/// The files of a directory, in no order. All else, as directories and links, is passed over. An absent directory has
+/// none. Neither it nor a directory that its path names behind its first `below` bytes is a link.
+pub fn files_in(
+    rt: &HostRuntime,
+    alloc: Global,
+    way: &mut SeenWay,
+    dir: &str,
+    below: usize,
+) -> Result<Vec<ListedFile>> {
+    let mut files = Vec::new(alloc);
+    if !(way.reaches(rt, dir, below)? && has_directory(rt, dir)?) {
+        return Ok(files);
     }
     let entries = match fs::read_dir(rt, dir) {
         Ok(entries) => entries,
-        Err(error) if error.kind() == ErrorKind::NotFound => return Ok(names),
+        Err(error) if error.kind() == ErrorKind::NotFound => return Ok(files),
         Err(error) => return Err(error),
     };
     for entry in entries {
         let entry = entry?;
-        if entry.file_type()?.is_file() {
-            names.push(String::from_str(alloc, entry.file_name())?)?;
+        let metadata = entry.metadata()?;
+        if metadata.is_file() {
+            files.push(ListedFile {
+                name: String::from_str(alloc, entry.file_name())?,
+                len: metadata.len(),
+            })?;
         }
     }
-    Ok(names)
+    Ok(files)
 }

@@ -1,4 +1,6 @@
+pub mod Bases
 pub mod Chunks
 pub mod Deciding
 pub mod HeaderFront
+pub mod Lengths
 pub mod Pieces

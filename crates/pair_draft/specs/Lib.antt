@@ -1,3 +1,4 @@
 pub mod Files
 pub mod Checking
 pub mod Writers
+pub mod Bases

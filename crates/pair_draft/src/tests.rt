@@ -368,3 +368,165 @@ fn a_seal_that_is_not_done_is_answered(rt: HostRuntime) {
         assert!(rt; sealed(alloc, block, meta) == want);
     }
 }
+
+// The meta file of a base, whose checksums another program computed.
+const BASE_META: &[u8] = b"\x00\x01\x02\x00\x00\x02\x00\x30\x9c\x86\x81\x25\xa0\xbb\x26";
+
+// A base of 600 bytes, of which the second chunk isn't full.
+fn base_bytes() -> [u8; 600] {
+    let mut bytes = [0u8; 600];
+    for i in 0..600usize {
+        bytes[i] = (i % 251) as u8;
+    }
+    bytes
+}
+
+// A writer that is to go on from a base of 600 bytes by four, into two drafts in memory. So many reads of the block's
+// file are answered.
+fn basing(
+    alloc: Global,
+    block: Option<&[u8]>,
+    meta: Option<&[u8]>,
+    reads: usize,
+    answers: Answers,
+) -> Option<Basing<NoDisks>> {
+    Some(Basing {
+        writer: writer(alloc, 604, answers, Answers::Ok)?,
+        base_len: 600,
+        block: file(alloc, block, 1000, reads).ok()?,
+        meta: file(alloc, meta, 1000, 1000).ok()?,
+    })
+}
+
+// What becomes of a base that is filled through so many bytes: the writer, or the fault, whether the writer is whole
+// then, and how many bytes its block has.
+fn filled(
+    basing: Basing<NoDisks>,
+    size: usize,
+) -> Option<Result<Writing<NoDisks>, (BaseFault, bool, usize)>>
+    requires some { 0 < size }
+    requires few { size ≤ 1000 }
+{
+    let mut buf = [0u8; 1000];
+    if !basing.writer.is_whole() || basing.base_len > basing.writer.left() {
+        return None;
+    }
+    match basing.fill(&mut buf[..size]) {
+        Ok(writer) => Some(Ok(writer)),
+        Err((fault, writer)) => Some(Err((fault, writer.is_whole(), writer.block.bytes.len()))),
+    }
+}
+
+// The bytes of a block and of its meta file, where `tail` was appended to a base with this meta file.
+fn appended(alloc: Global, meta: &[u8], size: usize) -> Option<(Vec<u8>, Vec<u8>)>
+    requires some { 0 < size }
+    requires few { size ≤ 1000 }
+{
+    let basing = basing(alloc, Some(&base_bytes()), Some(meta), 2000, Answers::Ok)?;
+    let Some(Ok(mut writer)) = filled(basing, size) else {
+        return None;
+    };
+    if !writer.is_whole() || writer.push(b"tail").is_err() || !writer.is_whole() {
+        return None;
+    }
+    match writer.seal() {
+        Ok(pair) => Some((pair.block.bytes, pair.meta.bytes)),
+        Err(_) => None,
+    }
+}
+
+#[test]
+fn an_append_has_its_base_in_front_and_new_checksums(rt: HostRuntime) -> Result<(), Fail> {
+    let alloc = rt.alloc();
+    let mut want = base_bytes().to_vec(alloc)?;
+    want.extend_from_slice(b"tail")?;
+    let other: &[u8] = b"\x00\x01\x01\x00\x00\x04\x00\xdf\xb2\x94\x3b";
+    for meta in [BASE_META, other] {
+        for size in [1usize, 100, 512, 1000] {
+            let Some((block, meta)) = appended(alloc, meta, size) else {
+                panic!(rt; "not appended through {size}");
+            };
+            assert!(rt; block.as_slice() == want.as_slice(), "through {size}");
+            assert_eq!(rt;
+                meta.as_slice(),
+                b"\x00\x01\x02\x00\x00\x02\x00\x30\x9c\x86\x81\x4d\xb7\xc1\x06".as_slice(),
+                "through {size}"
+            );
+        }
+    }
+    Ok(())
+}
+
+#[test]
+fn a_base_that_is_not_whole_is_not_copied(rt: HostRuntime) {
+    let alloc = rt.alloc();
+    let base = base_bytes();
+    let mut changed = base;
+    changed[599] ^= 1;
+    let rows: [(Option<&[u8]>, Option<&[u8]>, Verdict); 4] = [
+        (
+            Some(&changed),
+            Some(BASE_META),
+            Verdict::BadChunk {
+                chunk: 1,
+                stored: 631_290_662,
+                computed: 3_620_419_621,
+            },
+        ),
+        (
+            Some(&base[..599]),
+            Some(BASE_META),
+            Verdict::Short {
+                want: 600,
+                have: 599,
+            },
+        ),
+        (None, Some(BASE_META), Verdict::Short { want: 600, have: 0 }),
+        (
+            Some(&base),
+            None,
+            Verdict::Meta(MetaFault::Short { have: 0 }),
+        ),
+    ];
+    for (block, meta, want) in rows {
+        let Some(basing) = basing(alloc, block, meta, 1000, Answers::Ok) else {
+            panic!(rt; "no memory");
+        };
+        let Some(Err(end)) = filled(basing, 100) else {
+            panic!(rt; "copied");
+        };
+        assert!(rt; end == (BaseFault::Bad(want), true, 0));
+    }
+}
+
+// The reads of 100 bytes that a copy makes come after six of the verification.
+#[test]
+fn a_base_that_is_copied_in_part_ends_its_writer(rt: HostRuntime) {
+    let alloc = rt.alloc();
+    let base = base_bytes();
+    let rows = [
+        (
+            3usize,
+            Answers::Ok,
+            Some((BaseFault::Failed, false, 0usize)),
+        ),
+        (8, Answers::Ok, Some((BaseFault::Failed, false, 200))),
+        (11, Answers::Ok, Some((BaseFault::Failed, false, 500))),
+        (12, Answers::Ok, None),
+        (12, Answers::NoMemory, Some((BaseFault::Memory, false, 0))),
+        (
+            12,
+            Answers::AppendFails,
+            Some((BaseFault::Failed, false, 0)),
+        ),
+    ];
+    for (reads, answers, want) in rows {
+        let Some(basing) = basing(alloc, Some(&base), Some(BASE_META), reads, answers) else {
+            panic!(rt; "no memory");
+        };
+        let Some(end) = filled(basing, 100) else {
+            panic!(rt; "not whole");
+        };
+        assert!(rt; end.err() == want, "after {reads}");
+    }
+}

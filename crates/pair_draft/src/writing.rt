@@ -116,6 +116,7 @@ impl<D: PoolDisks> Writing<D> {
             HasPushed told (writer_of D.Draft.place D.Draft.bytes self.old) bytes →
             OnOk result (HasPushed told (writer_of D.Draft.place D.Draft.bytes self.new) (bytes ++ piece.now)) }
         ensures failed { result ≡ Err PushFault.Failed → (self.new.meta ≡ None) × Rose (D.Draft.faults self.old.block) (D.Draft.faults self.new.block) }
+        ensures later { D.Draft.faults self.old.block ≤ D.Draft.faults self.new.block }
         ensures goes_on { OnOk result (self.new.meta ≡ self.old.meta) }
         ensures keeps { Keeps (writer_of D.Draft.place D.Draft.bytes self.old) (writer_of D.Draft.place D.Draft.bytes self.new) }
     {

@@ -16,7 +16,7 @@ use Rattle.map_model.proofs.Spots.{spot_rank-injective}
 use Rattle.map_model.proofs.OneReading.{IsCopy-unique, ReadsAs-unique}
 use Rattle.map_model.proofs.Readings.{KeepsStamp-meta, KeepsStamp-only}
 use Rattle.pool_survey.specs.declared.found.FoundFiles.{FoundFiles}
-use Rattle.pool_survey.specs.Found.{metas_of}
+use Rattle.pool_survey.specs.Found.{has_block, metas_of}
 use Rattle.pool_survey.specs.Directories.{is_looked_for}
 use Rattle.pool_open.proofs.Placed.{first_in, copy_of, copy_found, found_copy, copy_meta, no_copy_meta}
 use Rattle.pool_open.proofs.Planned.{IsFound, goes}
@@ -36,7 +36,7 @@ pub record IsShown (found : ℕ → Option FoundFiles) (was : View) : Type 0 whe
   pub stands : (vol : ℕ) (file : BlockFile) → IsFound (found vol) file → IsTrue (is_standing (was vol file))
   pub stood : (vol : ℕ) (file : BlockFile) → is_looked_for file ≡ true → IsTrue (is_standing (was vol file)) → IsFound (found vol) file
   pub settled : (vol : ℕ) (file : BlockFile) (number : ℕ) → IsFinalised file → was vol file ≡ drafted number → ⊥
-  pub few : (vol : ℕ) → length (metas_of (found vol)) ≤ 1
+  pub few : (vol : ℕ) → has_block (found vol) ≡ true → length (metas_of (found vol)) ≤ 1
 
 -- and as they are while they are cleared: each is as it was or gone, and what doesn't go is as it was
 pub record Partly (kept : Option ℕ) (found : ℕ → Option FoundFiles) (was now : View) : Type 0 where

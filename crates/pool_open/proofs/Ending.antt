@@ -1,29 +1,21 @@
 -- The clauses of an opening, from what its calls gave.
-use Rattle.std.proofs.Common.{◌≡◌, ◌⊎◌, ◌↔◌, ◌<◌, ◌≤◌, inl, inr, ℕ, Bool, true, false, List, [], ◌∷◌, Option, None, Some, All, Contains, length, get_or, refl, ap, sym, ◌∙◌, subst, arith, IsSome}
-use Rattle.std.specs.Prelude.{◌+◌, ◌==◌, if◌then◌else◌, is_some, option_map}
+use Rattle.std.proofs.Common.{◌≡◌, ◌⊎◌, ◌↔◌, ◌≤◌, inl, inr, ℕ, Bool, true, false, List, [], ◌∷◌, Option, None, Some, All, Contains, length, refl, ap, sym, ◌∙◌, subst, arith, IsSome}
+use Rattle.std.specs.Prelude.{◌+◌, ◌==◌, if◌then◌else◌, option_map}
 use Rattle.std.specs.List.{flat_map}
 use Rattle.std.specs.Ordering.{nat_cmp}
 use Rattle.std.specs.BTreeMap.{get}
 use Rattle.std.specs.declared.vec.Vec.{Vec}
 use Rattle.std.specs.declared.alloc.Global.{Global}
-use Rattle.std.proofs.lemmas.Bool.{false≢true}
-use Rattle.std.proofs.lemmas.List.Elements.{All-contains, All-get_or, All-nil, All-cons, All-append, Contains-get_or}
+use Rattle.std.proofs.lemmas.List.Elements.{All-contains, All-nil, All-cons, All-append}
 use Rattle.disk_model.specs.declared.disks.PoolDisks.{Ghosts}
 use Rattle.disk_model.specs.Files.{Files}
-use Rattle.disk_model.specs.Worlds.{World, IsAbsent}
-use Rattle.disk_model.specs.Told.{InEachWorld, PicksOne, StandsWithin, CanLeave, Leaves}
+use Rattle.disk_model.specs.Worlds.{World}
+use Rattle.disk_model.specs.Told.{InEachWorld, CanLeave}
 use Rattle.disk_model.specs.Moments.{Elapses, AddsOnly}
-use Rattle.disk_model.proofs.Laws.{only_one, has_one, from_done}
 use Rattle.disk_model.proofs.GoingOn.{went_call}
-use Rattle.volume_layout.specs.Paths.{IsBlockId, IsStamp, meta_path, rbw_meta}
-use Rattle.volume_layout.proofs.Reading.{is_stamp-IsStamp}
+use Rattle.volume_layout.specs.Paths.{IsBlockId, meta_path, rbw_meta}
 use Rattle.map_model.specs.World.{DraftsAside}
-use Rattle.volume_layout.specs.declared.block_file.BlockFile.TheVariants.{Meta}
-use Rattle.map_model.specs.Slots.{is_standing, slot_of, view_of}
 use Rattle.map_model.specs.Stands.{BlockBooks}
-use Rattle.map_model.proofs.Aside.{aside_no_draft}
-use Rattle.map_model.proofs.Places.{no_number}
-use Rattle.map_model.proofs.Bridge.{view_slot}
 use Rattle.pool_state.specs.Books.{block_books, book_entry, entry_state}
 use Rattle.pool_state.specs.Stands.{IsVolume}
 use Rattle.replica_map.specs.declared.entry.Entry.{Entry}
@@ -32,25 +24,22 @@ use Rattle.replica_map.specs.declared.entry.State.{State}
 use Rattle.replica_map.specs.declared.entry.State.TheVariants.{Finalised, Writing, Unsure, Waiting}
 use Rattle.replica_map.specs.Counting.{is_final}
 use Rattle.replica_map.specs.Books.{Books, entry_at, grown_at}
-use Rattle.pool_survey.specs.declared.found.FoundFiles.{FoundFiles}
 use Rattle.pool_survey.specs.declared.places.FoundOn.{FoundOn}
 use Rattle.pool_survey.specs.declared.surveying_pool.PoolSurvey.{PoolSurvey}
-use Rattle.pool_survey.specs.Found.{AreStamps, metas_of}
-use Rattle.pool_survey.specs.Places.{found_on, places_of, ArePoolBlocks, IsPoolSurveyOf}
-use Rattle.pool_survey.specs.Regions.{AreFiles}
+use Rattle.pool_survey.specs.Places.{ArePoolBlocks}
 use Rattle.pool_survey.specs.Remaining.{Remains}
 use Rattle.pool_open.specs.declared.paths.Piece.{Piece}
 use Rattle.pool_open.specs.declared.paths.Piece.TheVariants.{Lesser, Superseded, Orphans}
 use Rattle.pool_open.specs.Plan.{Place, copy_stamp, block_on, metas_on, writing_on, writing_metas_on, whole_copy, bare_block, lone_writing_on, piece_on, pieces_of, names_on, temporary_from, kept_by, kept_in}
 use Rattle.pool_open.specs.Clearing.{IsOnVolumes, AreOnVolumes, LeftCleared}
 use Rattle.pool_open.specs.Looking.{OnlyLooks}
-use Rattle.pool_open.specs.Outcome.{HoldsImage, HasTwoMetas, ReadsAsOne}
-use Rattle.pool_open.proofs.Lists.{flat_all, map_all, found_listed, listed_found}
+use Rattle.pool_open.specs.Outcome.{ReadsAsOne}
+use Rattle.pool_open.proofs.Lists.{flat_all, map_all}
 use Rattle.pool_open.proofs.Looks.{leaves_before}
 use Rattle.pool_open.proofs.Shown.{world_reads_back}
-use Rattle.pool_open.proofs.Placed.{none_in, first_in, later_in, on_there, found_there, places_here, no_places}
+use Rattle.pool_open.proofs.Placed.{first_in, later_in, places_here}
 use Rattle.pool_open.proofs.Made.{final_vol, final_volume}
-use Rattle.pool_open.proofs.Opened.{IsTable, plan_of}
+use Rattle.pool_open.proofs.Opened.{plan_of}
 use Rattle.pool_open.proofs.Opens.{IsOpening, cleared_reads_back, in_before}
 
 -- ---- looking
@@ -110,30 +99,8 @@ meanwhile_before kept survey before first second after volumes books opening rem
 
 -- ---- the table
 
-few_by : (places : List FoundOn) → All (λ (on : FoundOn). length on.files.metas.items ≤ 1) places → (vol : ℕ) (o : Option FoundFiles) → found_on places vol ≡ o → length (metas_of o) ≤ 1
-few_by places few vol None is = omega arith
-few_by places few vol (Some files) is =
-    let on = on_there places vol files is in
-    subst (λ (f : FoundFiles). length f.metas.items ≤ 1) on.3 (All-contains (λ (on : FoundOn). length on.files.metas.items ≤ 1) places on.0 few on.1)
-
 module _ (volumes : ℕ) (survey : PoolSurvey) (blocks : ArePoolBlocks volumes survey.blocks)
     (listed : All (λ (entry : ℕ × Vec FoundOn Global). get nat_cmp survey.blocks entry.0 ≡ Some entry.1) survey.blocks.entries) where
-  few_at : All (λ (entry : ℕ × Vec FoundOn Global). All (λ (on : FoundOn). length on.files.metas.items ≤ 1) entry.1.items) survey.blocks.entries →
-      (id : ℕ) (o : Option (Vec FoundOn Global)) → get nat_cmp survey.blocks id ≡ o → All (λ (on : FoundOn). length on.files.metas.items ≤ 1) (places_of survey.blocks id)
-  few_at few id None is = subst (λ (places : List FoundOn). All (λ (on : FoundOn). length on.files.metas.items ≤ 1) places) (sym (no_places survey.blocks id is))
-      (All-nil (λ (on : FoundOn). length on.files.metas.items ≤ 1))
-  few_at few id (Some found) is =
-      subst (λ (places : List FoundOn). All (λ (on : FoundOn). length on.files.metas.items ≤ 1) places) (sym (places_here survey.blocks id found is))
-      (All-contains (λ (entry : ℕ × Vec FoundOn Global). All (λ (on : FoundOn). length on.files.metas.items ≤ 1) entry.1.items) survey.blocks.entries (id, found) few
-      (found_listed id survey.blocks.entries found is))
-
-  pub table_of : All (λ (entry : ℕ × Vec FoundOn Global). All (λ (on : FoundOn). length on.files.metas.items ≤ 1) entry.1.items) survey.blocks.entries → IsTable volumes survey
-  table_of few = record {
-    blocks = blocks;
-    few = λ id vol. few_by (places_of survey.blocks id) (few_at few id (get nat_cmp survey.blocks id) refl) vol (found_on (places_of survey.blocks id) vol) refl;
-    listed = λ id found has. listed_found survey.blocks listed id found has;
-  }
-
   found_of_entry : (entry : ℕ × Vec FoundOn Global) → Contains survey.blocks.entries entry → get nat_cmp survey.blocks entry.0 ≡ Some entry.1
   found_of_entry entry has = All-contains (λ (entry : ℕ × Vec FoundOn Global). get nat_cmp survey.blocks entry.0 ≡ Some entry.1) survey.blocks.entries entry listed has
 
@@ -233,96 +200,3 @@ kept_entry books id (Some entry) is = ap kept_by is ∙ kept_state (grown_at boo
 -- by the books it is that of the entry of a replica
 pub kept_volume : (books : Books) (id : ℕ) → kept_in books id ≡ final_volume (block_books books id).entry
 kept_volume books id = kept_entry books id (entry_at books id) refl
-
--- ---- two metas of one block
-
-standing_some : (content : Option (List ℕ)) → is_standing (slot_of None content) ≡ true → IsSome content
-standing_some None there = absurd (false≢true there)
-standing_some (Some bytes) there = refl
-
-some_standing : (content : Option (List ℕ)) → IsSome content → is_standing (slot_of None content) ≡ true
-some_standing None some = absurd (false≢true some)
-some_standing (Some bytes) some = refl
-
-module _ (volumes : ℕ) (world : World) (image : Files) (survey : PoolSurvey) (surveyed : IsPoolSurveyOf world volumes survey) (aside : DraftsAside world) (leaves : Leaves world image)
-    (blocks : ArePoolBlocks volumes survey.blocks) where
-  module _ (id : ℕ) (valid : IsBlockId id) (vol : ℕ) (on_volume : IsVolume volumes vol) where
-    -- a finalised meta is settled
-    meta_slot : (stamp : ℕ) → IsStamp stamp → view_of world id vol (Meta stamp) ≡ slot_of None (image vol (meta_path id stamp))
-    meta_slot stamp stamped =
-        let none = aside_no_draft id vol (Meta stamp) world refl aside in
-        view_slot world id vol (Meta stamp) (is_stamp-IsStamp stamp stamped)
-        ∙ ap (λ d. slot_of d (world.settled vol (meta_path id stamp))) (no_number world vol (meta_path id stamp) none)
-        ∙ ap (slot_of None) (sym (leaves.settled vol (meta_path id stamp) none))
-
-    -- a meta that was found stands in the image
-    stands_in : (stamp : ℕ) → IsStamp stamp → Contains (metas_of (found_on (places_of survey.blocks id) vol)) stamp → IsSome (image vol (meta_path id stamp))
-    stands_in stamp stamped has =
-        let there = ((surveyed.blocks id valid vol on_volume.0 on_volume.1).metas stamp).0 has in
-        standing_some (image vol (meta_path id stamp)) (sym (ap is_standing (meta_slot stamp stamped)) ∙ there)
-
-    found_in : (stamp : ℕ) → IsStamp stamp → IsSome (image vol (meta_path id stamp)) → Contains (metas_of (found_on (places_of survey.blocks id) vol)) stamp
-    found_in stamp stamped some =
-        ((surveyed.blocks id valid vol on_volume.0 on_volume.1).metas stamp).1
-        (ap is_standing (meta_slot stamp stamped) ∙ some_standing (image vol (meta_path id stamp)) some)
-
-    two_of : (stamps : List ℕ) → AreStamps stamps → metas_of (found_on (places_of survey.blocks id) vol) ≡ stamps → 1 < length stamps → HasTwoMetas image
-    two_of stamps ok are long =
-        let first_stamp = get_or stamps 0 0 in
-        let second_stamp = get_or stamps 1 0 in
-        let first_ok : IsStamp first_stamp = All-get_or IsStamp stamps 0 0 (omega (arith, long)) ok.in_range in
-        let second_ok : IsStamp second_stamp = All-get_or IsStamp stamps 1 0 long ok.in_range in
-        record {
-          vol = vol;
-          id = id;
-          stamp = first_stamp;
-          other = second_stamp;
-          valid = valid;
-          in_range = (first_ok, second_ok);
-          apart = ok.once 0 1 0 (omega arith) long;
-          stands = stands_in first_stamp first_ok (subst (λ (s : List ℕ). Contains s first_stamp) (sym are) (Contains-get_or stamps 0 0 (omega (arith, long))));
-          other_stands = stands_in second_stamp second_ok (subst (λ (s : List ℕ). Contains s second_stamp) (sym are) (Contains-get_or stamps 1 0 long));
-        }
-
-  id_by : (id : ℕ) (o : Option (Vec FoundOn Global)) → get nat_cmp survey.blocks id ≡ o → (on : FoundOn) → Contains (places_of survey.blocks id) on → IsBlockId id
-  id_by id None is on has = absurd (none_in on (subst (λ (places : List FoundOn). Contains places on) (no_places survey.blocks id is) has))
-  id_by id (Some found) is on has = blocks.ids id found is
-
-  pub two_metas : (id : ℕ) → (on : FoundOn) × Contains (places_of survey.blocks id) on × (1 < length on.files.metas.items) → HasTwoMetas image
-  two_metas id some =
-      let on : FoundOn = some.0 in
-      let are = blocks.places id in
-      two_of id (id_by id (get nat_cmp survey.blocks id) refl on some.1) on.vol (All-contains (λ (on : FoundOn). IsVolume volumes on.vol) (places_of survey.blocks id) on are.on_volumes some.1)
-      on.files.metas.items
-      (All-contains (λ (on : FoundOn). AreFiles (Some on.files)) (places_of survey.blocks id) on are.files some.1).metas
-      (ap metas_of (found_there (places_of survey.blocks id) are.rise on some.1)) some.2
-
-  one_of : (stamps : List ℕ) (a b : ℕ) → length stamps ≤ 1 → Contains stamps a → Contains stamps b → a ≡ b
-  one_of [] a b few has_a has_b = absurd (omega (arith, has_a.1))
-  one_of (stamp ∷ []) a b few has_a has_b = sym (only_one stamp a has_a) ∙ only_one stamp b has_b
-  one_of (stamp ∷ next ∷ more) a b few has_a has_b = absurd (omega (arith, few))
-
-  pub not_two_metas : ((id vol : ℕ) → length (metas_of (found_on (places_of survey.blocks id) vol)) ≤ 1) → (two : HasTwoMetas image) → IsVolume volumes two.vol → ⊥
-  not_two_metas few two there = two.apart (one_of (metas_of (found_on (places_of survey.blocks two.id) two.vol)) two.stamp two.other (few two.id two.vol)
-      (found_in two.id two.valid two.vol there two.stamp two.in_range.0 two.stands) (found_in two.id two.valid two.vol there two.other two.in_range.1 two.other_stands))
-
--- every image that the disks can leave then has them
-pub left_two_metas : (volumes : ℕ) (survey : PoolSurvey) (told first : Option (List World)) → PicksOne (λ world. IsPoolSurveyOf world volumes survey) (λ w. w) told first →
-    InEachWorld told DraftsAside → ArePoolBlocks volumes survey.blocks →
-    (id : ℕ) → (on : FoundOn) × Contains (places_of survey.blocks id) on × (1 < length on.files.metas.items) → (image : Files) → CanLeave first image → HasTwoMetas image
-left_two_metas volumes survey told first call aside blocks id some image leaves =
-    let from = from_done call leaves.0 leaves.1 in
-    two_metas volumes leaves.0 image survey (subst (λ w. IsPoolSurveyOf w volumes survey) (sym from.3) from.2) (subst DraftsAside (sym from.3) (aside from.0 from.1)) leaves.2 blocks id some
-
-stands_plain : (world : World) (vol : ℕ) (path : List ℕ) → IsSome (world.settled vol path) → IsAbsent world vol path → ⊥
-stands_plain world vol path some absent = false≢true (sym (ap is_some absent.file) ∙ some)
-
--- where one meta of each block was found on each volume, the one image that was told has no two
-pub told_no_two_metas : (volumes : ℕ) (image : Files) (survey : PoolSurvey) (told first : Option (List World)) → HoldsImage told image → StandsWithin volumes told →
-    PicksOne (λ world. IsPoolSurveyOf world volumes survey) (λ w. w) told first → IsTable volumes survey → HasTwoMetas image → ⊥
-told_no_two_metas volumes image survey told first holds within call table two =
-    let plain : World = record { settled = image; drafts = [] } in
-    let picked = call.picked (plain ∷ []) holds in
-    let there : IsVolume volumes two.vol = within plain (plain ∷ [], holds, has_one plain) two.vol (meta_path two.id two.stamp) (stands_plain plain two.vol (meta_path two.id two.stamp) two.stands) in
-    not_two_metas volumes plain image survey (subst (λ w. IsPoolSurveyOf w volumes survey) (sym (only_one plain picked.0 picked.1)) picked.2) (λ vol path aside. refl)
-    (record { drafts = λ vol path there. absurd (false≢true there); settled = λ vol path none. refl }) table.blocks table.few two there

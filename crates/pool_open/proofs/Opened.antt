@@ -55,10 +55,10 @@ finalised_apart (WritingMeta stamp) is = absurd is
 finalised_apart TemporaryBlock is = absurd is
 finalised_apart (TemporaryMeta stamp) is = absurd is
 
--- the table of a survey with at most one meta of a block on a volume
+-- the table of a survey with at most one meta beside a block file
 pub record IsTable (volumes : ℕ) (survey : PoolSurvey) : Type 0 where
   pub blocks : ArePoolBlocks volumes survey.blocks
-  pub few : (id vol : ℕ) → length (metas_of (found_on (places_of survey.blocks id) vol)) ≤ 1
+  pub few : (id vol : ℕ) → has_block (found_on (places_of survey.blocks id) vol) ≡ true → length (metas_of (found_on (places_of survey.blocks id) vol)) ≤ 1
   pub listed : (id : ℕ) (found : Vec FoundOn Global) → Contains survey.blocks.entries (id, found) → get nat_cmp survey.blocks id ≡ Some found
 
 -- a world that was surveyed

@@ -112,17 +112,17 @@ only_stamp (one ∷ []) stamp few has = ap (λ s. s ∷ []) (only_one one stamp 
 only_stamp (one ∷ next ∷ more) stamp few has = absurd (omega (arith, few))
 
 -- a block file and a meta, where one meta was found, are a copy
-pub found_copy : (found : Option FoundFiles) (stamp : ℕ) → length (metas_of found) ≤ 1 → has_block found ≡ true → Contains (metas_of found) stamp → copy_of found ≡ Some stamp
+pub found_copy : (found : Option FoundFiles) (stamp : ℕ) → (has_block found ≡ true → length (metas_of found) ≤ 1) → has_block found ≡ true → Contains (metas_of found) stamp → copy_of found ≡ Some stamp
 found_copy None stamp few there has = absurd (none_in stamp has)
-found_copy (Some files) stamp few there has = rw there (ap first_stamp (only_stamp files.metas.items stamp few has))
+found_copy (Some files) stamp few there has = rw there (ap first_stamp (only_stamp files.metas.items stamp (few there) has))
 
 -- and its stamp is that of each meta there
-pub copy_meta : (found : Option FoundFiles) (stamp other : ℕ) → length (metas_of found) ≤ 1 → copy_of found ≡ Some stamp → Contains (metas_of found) other → other ≡ stamp
+pub copy_meta : (found : Option FoundFiles) (stamp other : ℕ) → (has_block found ≡ true → length (metas_of found) ≤ 1) → copy_of found ≡ Some stamp → Contains (metas_of found) other → other ≡ stamp
 copy_meta found stamp other few is has =
     same_Some other stamp (sym (found_copy found other few (copy_found found stamp is).0 has) ∙ is)
 
 -- without a copy no meta stands beside a block file
-pub no_copy_meta : (found : Option FoundFiles) (stamp : ℕ) → length (metas_of found) ≤ 1 → copy_of found ≡ None → has_block found ≡ true → Contains (metas_of found) stamp → ⊥
+pub no_copy_meta : (found : Option FoundFiles) (stamp : ℕ) → (has_block found ≡ true → length (metas_of found) ≤ 1) → copy_of found ≡ None → has_block found ≡ true → Contains (metas_of found) stamp → ⊥
 no_copy_meta found stamp few none there has = none-some stamp (sym none ∙ found_copy found stamp few there has)
 
 -- ---- block files that are left

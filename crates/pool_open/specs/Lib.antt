@@ -2,7 +2,10 @@ pub mod Remaining
 pub mod Plan
 pub mod Looking
 pub mod Clearing
+pub mod Ours
 pub mod Found
 pub mod Numbering
+pub mod Surplus
 pub mod Waiting
 pub mod Outcome
+pub mod Prepared

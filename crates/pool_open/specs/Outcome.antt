@@ -1,6 +1,6 @@
 -- What an opening gives.
-use Rattle.std.specs.Prelude.{ℕ, ◌≡◌, ◌≢◌, ◌⊎◌, List, [], ◌∷◌, Option, Some, IsSome, IsSomeAnd, Result, Ok, Err}
-use Rattle.volume_layout.specs.Paths.{IsBlockId, IsStamp, meta_path}
+use Rattle.std.specs.Prelude.{ℕ, ◌≡◌, ◌⊎◌, List, Option, IsSome, IsSomeAnd, Result, Ok, Err}
+use Rattle.volume_layout.specs.Paths.{IsBlockId}
 use Rattle.disk_model.specs.declared.disks.PoolDisks.{Ghosts}
 use Rattle.disk_model.specs.declared.disks.Draft as drafts
 use Rattle.disk_model.specs.declared.disks.SealedDraft as sealed
@@ -18,30 +18,13 @@ use Rattle.map_model.specs.Stands.{BlockBooks}
 use Rattle.pool_state.specs.declared.pool_record.Pool.{Pool}
 use Rattle.pool_state.specs.Stands.{PoolStands}
 use Rattle.pool_open.specs.declared.opening.OpenFault.{OpenFault}
-use Rattle.pool_open.specs.declared.opening.OpenFault.TheVariants.{Failed, Memory, Later}
+use Rattle.pool_open.specs.declared.opening.OpenFault.TheVariants.{Failed, Memory}
 use Rattle.pool_open.specs.Waiting.{WaitsAs}
-
--- the disks tell that they hold this image, without drafts
-abbrev pub HoldsImage : Option (List World) → Files → Type 0
-HoldsImage told image = told ≡ Some (record { settled = image; drafts = [] } ∷ [])
-
--- two metas of one block stand in its own directory on a volume
-pub record HasTwoMetas (image : Files) : Type 0 where
-  pub vol : ℕ
-  pub id : ℕ
-  pub stamp : ℕ
-  pub other : ℕ
-  pub valid : IsBlockId id
-  pub in_range : IsStamp stamp × IsStamp other
-  pub apart : stamp ≢ other
-  pub stands : IsSome (image vol (meta_path id stamp))
-  pub other_stands : IsSome (image vol (meta_path id other))
 
 -- the disks that a fault gives back
 abbrev pub fault_disks : {D : Type 0} → OpenFault D → D
 fault_disks (Failed disks) = disks
 fault_disks (Memory disks) = disks
-fault_disks (Later disks) = disks
 
 -- the disks in the pool, or in the fault
 abbrev pub disks_of : {D S T R : Type 0} {g : Ghosts D S T R} {d : drafts.Ghosts T S} {s : sealed.Ghosts S} {r : readers.Ghosts R} →

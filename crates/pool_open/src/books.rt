@@ -1,5 +1,7 @@
 //! The books that an opening makes.
-ghost use Rattle.std.specs.Prelude.{ℕ, ◌≡◌, ◌+◌, ◌≤◌, ◌++◌, [], ◌∷◌, if◌then◌else◌, IsTrue, IsErrOf, OnOk, IfOk, map, length};
+ghost use Rattle.std.specs.Prelude.{ℕ, ◌≡◌, ◌+◌, ◌≤◌, ◌++◌, [], ◌∷◌, if◌then◌else◌, IsTrue, IsErrOf, OnOk, IfOk, Some, All, map, length};
+ghost use Rattle.std.specs.Ordering.{nat_cmp};
+ghost use Rattle.std.specs.BTreeMap.{get};
 ghost use Rattle.disk_model.specs.Causes.{Rose};
 ghost use Rattle.volume_layout.specs.declared.block_file.BlockFile.TheVariants.{Block, WritingBlock, WritingMeta};
 ghost use Rattle.replica_map.specs.declared.entry.State.TheVariants.{Finalised};
@@ -383,6 +385,7 @@ pub fn make_books<D: PoolDisks>(
     requires blocks { ArePoolBlocks (D.volume_count disks.old) blocks.now }
     ensures says { IfOk result (λ books. (id : ℕ) → SaysFound (D.worlds disks.new) id (places_of blocks.now id) (block_books books id)) }
     ensures numbered { IfOk result (λ books. IsNumbered first_rev (block_books books) (first_rev + length books.rows)) }
+    ensures listed { IfOk result (λ books. All (λ entry. get nat_cmp blocks.now entry.0 ≡ Some entry.1) blocks.now.entries) }
     ensures idle { IfOk result (λ books. writers books ≡ 0) }
     ensures no_moves { IfOk result (λ books. books.tickets ≡ []) }
     ensures looks { OnlyLooks D.PoolDisks disks.old disks.new }

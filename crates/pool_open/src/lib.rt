@@ -7,6 +7,7 @@ mod metas;
 mod opening;
 mod outcome;
 mod paths;
+mod preparing;
 
 pub use opening::{OpenFault, ReopenFault, open_pool, reopen_pool};
 

@@ -1,24 +1,21 @@
 //! The opening of a pool.
 ghost use Rattle.std.specs.Prelude.{◌≡◌, ◌≤◌, ◌^◌, Some, Err, IfOk, IsOk, OnOk, IsErrOf, length};
 ghost use Rattle.disk_model.specs.Causes.{Rose};
-ghost use Rattle.disk_model.specs.Files.{Files};
 ghost use Rattle.disk_model.specs.Moments.{AddsOnly};
-ghost use Rattle.disk_model.specs.Told.{InEachWorld, CanLeave};
+ghost use Rattle.disk_model.specs.Told.{InEachWorld};
 ghost use Rattle.disk_model.specs.Marks.{GoesOn};
 ghost use Rattle.map_model.specs.World.{DraftsAside};
 ghost use Rattle.pool_state.specs.Books.{block_books};
+ghost use Rattle.pool_state.specs.Foreign.{LeavesForeign};
 ghost use Rattle.pool_state.specs.Rooms.{choosing_of};
 ghost use Rattle.pool_open.specs.Numbering.{ChoosesAnew, first_revision};
 ghost use Rattle.pool_open.specs.Remaining.{Remains};
-ghost use Rattle.pool_open.specs.Outcome.{disks_of, HoldsImage, HasTwoMetas, Opens, ReadsAsOne};
+ghost use Rattle.pool_open.specs.Outcome.{disks_of, Opens, ReadsAsOne};
 
-use crate::books::make_books;
 use crate::clearing::clear_places;
-use crate::metas::find_several;
-use crate::paths::list_places;
+use crate::preparing::prepare;
 use disk_model::{DiskError, Failed, PoolDisks};
 use pool_state::{Pool, ReplicaMap};
-use pool_survey::survey_pool;
 use std::alloc::Global;
 
 /// Why a pool was not opened. The disks are given back.
@@ -28,8 +25,6 @@ pub enum OpenFault<D: Drop> {
     Failed(D),
     /// There was no memory. Nothing was changed.
     Memory(D),
-    /// Two metas of one block stand in its own directory on a volume: they aren't brought down to one yet. Nothing was changed.
-    Later(D),
 }
 
 /// Why a pool was not opened again.
@@ -39,8 +34,6 @@ pub enum ReopenFault {
     Failed,
     /// There was no memory. Nothing was changed.
     Memory,
-    /// Two metas of one block stand in its own directory on a volume: they aren't brought down to one yet. Nothing was changed.
-    Later,
 }
 
 /// Opens the pool of these disks, which may use so many bytes on each volume, as `reopen_pool` does. Its revisions begin
@@ -60,11 +53,9 @@ pub fn open_pool<D: PoolDisks>(
         (block_books pool.map) (D.left_since disks) (D.left_since pool.disks)) }
     ensures images { AddsOnly (D.left_since disks) (D.left_since (disks_of result)) (ReadsAsOne (D.worlds disks)) }
     ensures goes_on { GoesOn D.PoolDisks disks (disks_of result) }
+    ensures foreign { LeavesForeign D.PoolDisks disks (disks_of result) }
     ensures failed { (d : _) → result ≡ Err (OpenFault.Failed d) → Rose (D.faults disks) (D.faults d) }
     ensures memory { (d : _) → result ≡ Err (OpenFault.Memory d) → Remains (D.worlds disks) (D.worlds d) }
-    ensures unchanged { (d : _) → result ≡ Err (OpenFault.Later d) → Remains (D.worlds disks) (D.worlds d) }
-    ensures two_metas { (d : _) → result ≡ Err (OpenFault.Later d) → (image : Files) → CanLeave (D.worlds d) image → HasTwoMetas image }
-    ensures one_meta { (image : Files) → HoldsImage (D.worlds disks) image → IsOk result → HasTwoMetas image → ⊥ }
 {
     let mut pool = Pool {
         disks,
@@ -77,16 +68,17 @@ pub fn open_pool<D: PoolDisks>(
         Ok(()) => Ok(pool),
         Err(ReopenFault::Failed) => Err(OpenFault::Failed(pool.disks)),
         Err(ReopenFault::Memory) => Err(OpenFault::Memory(pool.disks)),
-        Err(ReopenFault::Later) => Err(OpenFault::Later(pool.disks)),
     }
 }
 
 /// Opens a pool again, whatever its books say and whichever drafts stand: no writer of it is owned any more. It lists each
 /// directory of the pool on each volume once, and asks the size of each block file that counts, by ascending ids. A block
-/// file with its meta on the same volume is a copy, of any length; of several copies of a block the one with the greatest
+/// file with its meta on the same volume is a copy, of any length; of several metas beside it the greatest stamp counts, but
+/// where the block has a file `current/rbw/blk_<id>` on the volume, the one below it; of several copies of a block the one with the greatest
 /// stamp is the replica, else the longest, else the one on the lowest volume. Where a block has no copy, its block files
 /// without a meta and those under `current/rbw` wait to be deleted, and so do the metas under `current/rbw` beside the
-/// latter. Then it removes every name in `tmp`; the other copies, of each the block file first; the files under `current/rbw`
+/// latter. Then it removes the metas beside a block file that don't count, first those with smaller stamps, then those with
+/// greater ones; every name in `tmp`; the other copies, of each the block file first; the files under `current/rbw`
 /// of each replica, and its block files without a meta; and the metas without a block file. Names that aren't those of block
 /// files or of meta files stay, outside `tmp`. All memory is taken before the first removal; it stops at the first call that
 /// fails. The entries have revisions in ascending id, from the pool's next one on, or from 2^63 on where that is less, and the
@@ -98,37 +90,23 @@ pub fn reopen_pool<D: PoolDisks>(alloc: Global, pool: &mut Pool<D>) -> Result<()
         (block_books pool.new.map) (D.left_since pool.old.disks) (D.left_since pool.new.disks)) }
     ensures images { AddsOnly (D.left_since pool.old.disks) (D.left_since pool.new.disks) (ReadsAsOne (D.worlds pool.old.disks)) }
     ensures goes_on { GoesOn D.PoolDisks pool.old.disks pool.new.disks }
+    ensures foreign { LeavesForeign D.PoolDisks pool.old.disks pool.new.disks }
     ensures failed { IsErrOf result ReopenFault.Failed → Rose (D.faults pool.old.disks) (D.faults pool.new.disks) }
     ensures memory { IsErrOf result ReopenFault.Memory → Remains (D.worlds pool.old.disks) (D.worlds pool.new.disks) }
-    ensures unchanged { IsErrOf result ReopenFault.Later → Remains (D.worlds pool.old.disks) (D.worlds pool.new.disks) }
-    ensures two_metas { IsErrOf result ReopenFault.Later → (image : Files) → CanLeave (D.worlds pool.new.disks) image → HasTwoMetas image }
-    ensures one_meta { (image : Files) → HoldsImage (D.worlds pool.old.disks) image → IsOk result → HasTwoMetas image → ⊥ }
 {
     let first_rev = pool.next_rev.min(1 << 63);
-    let survey = match survey_pool(alloc, &mut pool.disks) {
-        Ok(survey) => survey,
+    let prepared = match prepare(alloc, &mut pool.disks, first_rev) {
+        Ok(prepared) => prepared,
         Err(DiskError::Failed) => return Err(ReopenFault::Failed),
         Err(DiskError::Memory) => return Err(ReopenFault::Memory),
     };
-    if let Some(_) = find_several(&survey.blocks) {
-        return Err(ReopenFault::Later);
+    if let Err(Failed) = clear_places(&mut pool.disks, &prepared.surplus) {
+        return Err(ReopenFault::Failed);
     }
-    let map = match make_books(alloc, &mut pool.disks, &survey.blocks, first_rev) {
-        Ok(map) => map,
-        Err(DiskError::Failed) => return Err(ReopenFault::Failed),
-        Err(DiskError::Memory) => return Err(ReopenFault::Memory),
-    };
-    let Some(next_rev) = first_rev.checked_add(map.entry_count() as u64) else {
-        return Err(ReopenFault::Memory);
-    };
-    let places = match list_places(alloc, &survey, &map) {
-        Ok(places) => places,
-        Err(_) => return Err(ReopenFault::Memory),
-    };
-    match clear_places(&mut pool.disks, &places) {
+    match clear_places(&mut pool.disks, &prepared.places) {
         Ok(()) => {
-            pool.map = map;
-            pool.next_rev = next_rev;
+            pool.map = prepared.map;
+            pool.next_rev = prepared.next_rev;
             pool.pointer = 1;
             Ok(())
         }

@@ -36,7 +36,7 @@ fn kept_volume(map: &ReplicaMap, id: BlockId) -> Option<u8>
 }
 
 /// Adds a path on a volume.
-fn push_path(
+pub fn push_path(
     alloc: Global,
     places: &mut Vec<VolumePath>,
     vol: u8,

@@ -17,7 +17,6 @@ enum Answer {
     Opened(usize, usize),
     Failed,
     Memory,
-    Later,
 }
 
 use Answer::Opened;
@@ -53,7 +52,6 @@ fn opened<D: PoolDisks>(alloc: Global, disks: D) -> Answer
         Ok(pool) => Opened(pool.map.entry_count(), pool.map.leftover_count()),
         Err(OpenFault::Failed(_)) => Answer::Failed,
         Err(OpenFault::Memory(_)) => Answer::Memory,
-        Err(OpenFault::Later(_)) => Answer::Later,
     }
 }
 

@@ -17,3 +17,4 @@ pub mod Deletions
 pub mod AnyRoom
 pub mod Counted
 pub mod Drawing
+pub mod Foreign

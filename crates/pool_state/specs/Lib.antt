@@ -4,6 +4,7 @@ pub mod BookSteps
 pub mod Writers
 pub mod Stands
 pub mod Reaching
+pub mod Foreign
 pub mod Rooms
 pub mod Uses
 pub mod Reports

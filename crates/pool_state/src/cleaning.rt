@@ -9,6 +9,7 @@ ghost use Rattle.replica_map.specs.Books.{SameRows, IsFirstOf};
 ghost use Rattle.pool_state.specs.Books.{block_books, left_at};
 ghost use Rattle.pool_state.specs.Reaching.{RemovesFiles};
 ghost use Rattle.pool_state.specs.Tenures.{Rests, KeepsWhole, ChoosesAsBefore};
+ghost use Rattle.pool_state.specs.Foreign.{LeavesForeign};
 ghost use Rattle.pool_state.specs.Stands.{Stands, StandsForSome};
 
 use crate::pool_record::Pool;
@@ -27,6 +28,7 @@ pub fn remove_files<D: PoolDisks>(
     requires high { vol ≤ D.volume_count disks.old }
     ensures removes { RemovesFiles id vol files.now (IsOk result) (D.worlds disks.old) (D.worlds disks.new) (D.left_since disks.old) (D.left_since disks.new) }
     ensures goes_on { GoesOn D.PoolDisks disks.old disks.new }
+    ensures foreign { LeavesForeign D.PoolDisks disks.old disks.new }
     ensures failed { IsErr result → Rose (D.faults disks.old) (D.faults disks.new) }
 {
     for at in 0..files.len() {
@@ -50,6 +52,7 @@ impl<D: PoolDisks> Pool<D> {
         ensures tickets { self.new.map.tickets ≡ self.old.map.tickets }
         ensures others { (other : ℕ) → other ≢ id → block_books self.new.map other ≡ block_books self.old.map other }
         ensures goes_on { GoesOn D.PoolDisks self.old.disks self.new.disks }
+        ensures foreign { LeavesForeign D.PoolDisks self.old.disks self.new.disks }
         ensures choosing { ChoosesAsBefore self.old self.new }
         ensures failed { IsErr result → Rose (D.faults self.old.disks) (D.faults self.new.disks) }
     {
@@ -75,6 +78,7 @@ impl<D: PoolDisks> Pool<D> {
         ensures tickets { self.new.map.tickets ≡ self.old.map.tickets }
         ensures others { (other : ℕ) → other ≢ id → block_books self.new.map other ≡ block_books self.old.map other }
         ensures goes_on { GoesOn D.PoolDisks self.old.disks self.new.disks }
+        ensures foreign { LeavesForeign D.PoolDisks self.old.disks self.new.disks }
         ensures choosing { ChoosesAsBefore self.old self.new }
         ensures failed { IsErr result → Rose (D.faults self.old.disks) (D.faults self.new.disks) }
     {

@@ -13,6 +13,7 @@ ghost use Rattle.replica_map.specs.Books.{entry_at};
 ghost use Rattle.replica_map.specs.declared.entry.State.TheVariants.{Finalised, Unsure, Waiting};
 ghost use Rattle.pool_state.specs.Books.{block_books};
 ghost use Rattle.pool_state.specs.BookSteps.{BooksDeleted};
+ghost use Rattle.pool_state.specs.Foreign.{LeavesForeign};
 ghost use Rattle.pool_state.specs.Stands.{Stands, StandsForSome};
 
 use crate::bookkeeping::{put, take_away};
@@ -56,6 +57,7 @@ impl<D: PoolDisks> Pool<D> {
         ensures others { (other : ℕ) → other ≢ id → block_books self.new.map other ≡ block_books self.old.map other }
         ensures books { BooksDeleted result (block_books self.old.map id) (block_books self.new.map id) }
         ensures goes_on { GoesOn D.PoolDisks self.old.disks self.new.disks }
+        ensures foreign { LeavesForeign D.PoolDisks self.old.disks self.new.disks }
         ensures choosing { ChoosesAsBefore self.old self.new }
         ensures failed { IsErrOf result DeleteFault.Failed → Rose (D.faults self.old.disks) (D.faults self.new.disks) }
     {
@@ -81,6 +83,7 @@ impl<D: PoolDisks> Pool<D> {
         ensures others { (other : ℕ) → other ≢ id → block_books self.new.map other ≡ block_books self.old.map other }
         ensures books { BooksDeleted result (block_books self.old.map id) (block_books self.new.map id) }
         ensures goes_on { GoesOn D.PoolDisks self.old.disks self.new.disks }
+        ensures foreign { LeavesForeign D.PoolDisks self.old.disks self.new.disks }
         ensures choosing { ChoosesAsBefore self.old self.new }
         ensures failed { IsErr result → Rose (D.faults self.old.disks) (D.faults self.new.disks) }
     {
@@ -114,6 +117,7 @@ impl<D: PoolDisks> Pool<D> {
         ensures others { (other : ℕ) → other ≢ id → block_books self.new.map other ≡ block_books self.old.map other }
         ensures books { BooksDeleted result (block_books self.old.map id) (block_books self.new.map id) }
         ensures goes_on { GoesOn D.PoolDisks self.old.disks self.new.disks }
+        ensures foreign { LeavesForeign D.PoolDisks self.old.disks self.new.disks }
         ensures choosing { ChoosesAsBefore self.old self.new }
         ensures failed { IsErr result → Rose (D.faults self.old.disks) (D.faults self.new.disks) }
     {
@@ -143,6 +147,7 @@ impl<D: PoolDisks> Pool<D> {
         ensures others { (other : ℕ) → other ≢ id → block_books self.new.map other ≡ block_books self.old.map other }
         ensures books { BooksDeleted result (block_books self.old.map id) (block_books self.new.map id) }
         ensures goes_on { GoesOn D.PoolDisks self.old.disks self.new.disks }
+        ensures foreign { LeavesForeign D.PoolDisks self.old.disks self.new.disks }
         ensures choosing { ChoosesAsBefore self.old self.new }
         ensures failed { IsErr result → Rose (D.faults self.old.disks) (D.faults self.new.disks) }
     {

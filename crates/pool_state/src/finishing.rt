@@ -10,6 +10,7 @@ ghost use Rattle.pool_state.specs.Books.{block_books};
 ghost use Rattle.pool_state.specs.BookSteps.{BooksFinished, BooksDropped, given_up};
 ghost use Rattle.pool_state.specs.Rooms.{room_of};
 ghost use Rattle.pool_state.specs.Tenures.{Takes, PairBelongs, Finishes, Drops, KeepsWhole, ChoosesAsBefore};
+ghost use Rattle.pool_state.specs.Foreign.{LeavesForeign};
 ghost use Rattle.pool_state.specs.Stands.{Stands, StandsForSome};
 ghost use Rattle.pool_state.specs.Writers.{meta_of};
 
@@ -30,6 +31,7 @@ impl<D: PoolDisks> Pool<D> {
         ensures others { (other : ℕ) → other ≢ pair.id → block_books self.new.map other ≡ block_books self.old.map other }
         ensures books { BooksFinished result pair.len (block_books self.old.map pair.id) (block_books self.new.map pair.id) }
         ensures goes_on { GoesOn D.PoolDisks self.old.disks self.new.disks }
+        ensures foreign { LeavesForeign D.PoolDisks self.old.disks self.new.disks }
         ensures choosing { ChoosesAsBefore self.old self.new }
         ensures failed { IsErr result → Rose (D.faults self.old.disks) (D.faults self.new.disks) }
     {
@@ -91,6 +93,7 @@ impl<D: PoolDisks> Pool<D> {
         ensures others { (other : ℕ) → other ≢ writer.id → block_books self.new.map other ≡ block_books self.old.map other }
         ensures books { BooksDropped result (block_books self.old.map writer.id) (block_books self.new.map writer.id) }
         ensures goes_on { GoesOn D.PoolDisks self.old.disks self.new.disks }
+        ensures foreign { LeavesForeign D.PoolDisks self.old.disks self.new.disks }
         ensures choosing { ChoosesAsBefore self.old self.new }
         ensures failed { IsErr result → Rose (D.faults self.old.disks) (D.faults self.new.disks) }
     {

@@ -12,6 +12,7 @@ ghost use Rattle.pool_state.specs.Answers.{start_fault, read_fault};
 ghost use Rattle.pool_state.specs.Books.{block_books};
 ghost use Rattle.pool_state.specs.Rooms.{room_of};
 ghost use Rattle.pool_state.specs.Tenures.{Rests, GivesNumber, KeepsWhole, ChoosesAsBefore};
+ghost use Rattle.pool_state.specs.Foreign.{LeavesForeign};
 ghost use Rattle.pool_state.specs.Stands.{Stands, StandsForSome};
 ghost use Rattle.pool_state.specs.Readers.{reader_bytes, file_of, IsLent, AreFilesOf, LooksForPair};
 
@@ -45,6 +46,7 @@ fn lend_file<D: PoolDisks>(
         GivenBetween (D.next_number disks.old) (D.next_number disks.new) (D.Reader.number reader))) }
     ensures absent { IfOk result (λ lent. IfNone lent (Rose (D.absences disks.old) (D.absences disks.new))) }
     ensures goes_on { GoesOn D.PoolDisks disks.old disks.new }
+    ensures foreign { LeavesForeign D.PoolDisks disks.old disks.new }
     ensures fault { IfErr result (λ fault. (fault ≡ StartFault.Failed) ⊎ (fault ≡ StartFault.Memory)) }
     ensures failed { IsErrOf result StartFault.Failed → Rose (D.faults disks.old) (D.faults disks.new) }
 {
@@ -72,6 +74,7 @@ impl<D: PoolDisks> Pool<D> {
         ensures block_number { IfOk result (λ pair. IfSome pair.block (λ reader. GivesNumber self.old self.new (D.Reader.number reader))) }
         ensures meta_number { IfOk result (λ pair. IfSome pair.meta (λ reader. GivesNumber self.old self.new (D.Reader.number reader))) }
         ensures goes_on { GoesOn D.PoolDisks self.old.disks self.new.disks }
+        ensures foreign { LeavesForeign D.PoolDisks self.old.disks self.new.disks }
         ensures choosing { ChoosesAsBefore self.old self.new }
         ensures looked { IsOk result → LooksForPair self.old self.new }
         ensures failed { IsErrOf result StartFault.Failed → Rose (D.faults self.old.disks) (D.faults self.new.disks) }

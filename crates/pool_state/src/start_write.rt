@@ -12,6 +12,7 @@ ghost use Rattle.replica_map.specs.Books.{entry_at, used};
 ghost use Rattle.pool_state.specs.Rooms.{room_of};
 ghost use Rattle.pool_state.specs.Uses.{AreUses};
 ghost use Rattle.pool_state.specs.Tenures.{Starts, StartsBooks, IsWriterOf, GivesNumber, KeepsWhole};
+ghost use Rattle.pool_state.specs.Foreign.{LeavesForeign};
 ghost use Rattle.pool_state.specs.Stands.{Stands, StandsForSome};
 
 use crate::bookkeeping::{add_created, add_half_created, add_writer, make_room};
@@ -67,6 +68,7 @@ impl<D: PoolDisks> Pool<D> {
         ensures numbers { IfOk result (λ w. GivesNumber self.old self.new (D.Draft.place w.block).number) }
         ensures meta_numbers { IfOk result (λ w. IfSome w.meta (λ meta. GivesNumber self.old self.new (D.Draft.place meta).number)) }
         ensures goes_on { GoesOn D.PoolDisks self.old.disks self.new.disks }
+        ensures foreign { LeavesForeign D.PoolDisks self.old.disks self.new.disks }
         ensures failed { IsErrOf result StartFault.Failed → Rose (D.faults self.old.disks) (D.faults self.new.disks) }
     {
         let _in_range = stamp.get();

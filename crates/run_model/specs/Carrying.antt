@@ -1,5 +1,5 @@
 -- That a line was carried out, by a session that stands for the state of a run.
-use Rattle.std.specs.Prelude.{ℕ, Bool, false, List, Option, ⊤, IsSome}
+use Rattle.std.specs.Prelude.{ℕ, List, Option, ⊤, IsSome}
 use Rattle.disk_model.specs.Worlds.{World}
 use Rattle.disk_model.specs.Files.{Files}
 use Rattle.disk_model.specs.Told.{CanLeave}
@@ -9,12 +9,10 @@ use Rattle.map_model.specs.Copies.{OneWhole}
 use Rattle.map_model.specs.Cells.{Cells}
 use Rattle.map_model.specs.Steps.{Command}
 use Rattle.script_lang.specs.declared.reply.Reply.{Reply}
-use Rattle.script_lang.specs.declared.Line.{Line}
-use Rattle.script_lang.specs.declared.Line.TheVariants.{Reopen, Report}
+use Rattle.script_lang.specs.declared.line.Line.{Line}
 use Rattle.run_model.specs.State.{RunState}
 use Rattle.run_model.specs.Commands.{Trust, any_disks, telling_disks, sound_disks, CommandStep}
 use Rattle.run_model.specs.Lines.{Does}
-use Rattle.run_model.specs.Script.{is_carried}
 use Rattle.run_model.specs.Images.{CrashSafe}
 
 -- what must be known of the disks: that they tell their content, and that it's sound
@@ -39,12 +37,6 @@ pub record CarriesOut (Faulty : ℕ → ℕ → Type 0) (told : Option (List Wor
   pub stands : StandsFor new
   pub step : (trust : Trust) → IsKnown (Sound old.cells) trust told → CommandStep trust Faulty old before id command reply new after
   pub crash : CrashSafe old.cells new.cells Sound SoundNow past since
-
--- the line asks for something on one block
-abbrev pub is_on_block : Line → Bool
-is_on_block Reopen = false
-is_on_block Report = false
-is_on_block line = is_carried line
 
 -- A line was carried out: the session stands for another state, to which the line leads, whatever is known of the
 -- disks.

@@ -1,5 +1,6 @@
 pub mod State
 pub mod Replies
+pub mod Asking
 pub mod Script
 pub mod Books
 pub mod Commands

@@ -1,16 +1,19 @@
 -- One line of a script, and the lines of a run.
-use Rattle.std.specs.Prelude.{ℕ, ◌≡◌, List, [], ◌∷◌, length, ⊤}
+use Rattle.std.specs.Prelude.{ℕ, ◌≡◌, List, [], ◌∷◌, length, IfSome, IsSomeAnd, ⊤}
 use Rattle.volume_layout.specs.Paths.{IsBlockId}
-use Rattle.script_lang.specs.declared.Line.{Line}
-use Rattle.script_lang.specs.declared.Line.TheVariants.{Open, Push, Finish, Drop, Write, Read, Delete, Reopen, Report}
+use Rattle.script_lang.specs.declared.line.Line.{Line}
+use Rattle.script_lang.specs.declared.line.Line.TheVariants.{Node, Client}
+use Rattle.script_lang.specs.declared.line.NodeLine.TheVariants.{Reopen, Report}
 use Rattle.script_lang.specs.declared.reply.Reply.{Reply}
 use Rattle.script_lang.specs.declared.reply.Reply.TheVariants.{Done}
-use Rattle.map_model.specs.Cells.{Cells}
-use Rattle.map_model.specs.Steps.{start_write, push, finish, drop_write, write, read, delete, Reopened}
+use Rattle.map_model.specs.Cells.{Replica, Cells, final}
+use Rattle.map_model.specs.Stands.{BlockBooks}
+use Rattle.map_model.specs.Steps.{Reopened}
 use Rattle.pool_open.specs.Outcome.{IsOpened}
 use Rattle.pool_open.specs.Numbering.{ChoosesAnew, first_revision}
 use Rattle.disk_model.specs.Marks.{Mark, IsLater}
 use Rattle.run_model.specs.State.{RunState, Turn}
+use Rattle.run_model.specs.Asking.{block_of, command_of}
 use Rattle.run_model.specs.Books.{BooksOpened}
 use Rattle.run_model.specs.Reports.{Reports}
 use Rattle.run_model.specs.Commands.{Trust, any_disks, telling_disks, sound_disks, CommandStep}
@@ -22,6 +25,20 @@ CellsReopened any_disks old new = (id : ℕ) → IsBlockId id → IsOpened (new 
 CellsReopened telling_disks old new = (id : ℕ) → IsBlockId id → Reopened (old id) (new id)
 CellsReopened sound_disks old new = (id : ℕ) → IsBlockId id → Reopened (old id) (new id)
 
+-- the entries that the books have are on the same volume
+abbrev pub IsOnVolumeOf : (old new : BlockBooks) → Type 0
+IsOnVolumeOf old new = IfSome old.entry (λ was. IsSomeAnd new.entry (λ now. now.vol ≡ was.vol))
+
+-- each replica stays on its volume
+abbrev pub StayOnVolumes : (old new : RunState) → Type 0
+StayOnVolumes old new = (id : ℕ) → IsBlockId id → (replica : Replica) → old.cells id ≡ final replica → IsOnVolumeOf (old.books id) (new.books id)
+
+-- where the disks tell, closing the pool and opening it again leaves each replica on its volume
+abbrev pub VolumesReopened : Trust → (old new : RunState) → Type 0
+VolumesReopened any_disks old new = ⊤
+VolumesReopened telling_disks old new = StayOnVolumes old new
+VolumesReopened sound_disks old new = StayOnVolumes old new
+
 -- the line `reopen`
 pub record Reopens (trust : Trust) (old : RunState) (reply : Reply) (new : RunState) : Type 0 where
   pub done : reply ≡ Done
@@ -30,18 +47,14 @@ pub record Reopens (trust : Trust) (old : RunState) (reply : Reply) (new : RunSt
   pub writers : (id : ℕ) → new.writers id ≡ old.writers id
   pub choosing : ChoosesAnew old.choosing.shares (first_revision old.choosing.next_rev) new.books new.choosing
   pub books : (id : ℕ) → IsBlockId id → BooksOpened (length old.choosing.shares) (new.cells id) (new.books id)
+  pub placed : VolumesReopened trust old new
 
 -- what each line does that is carried out
 abbrev pub Does : Trust → (ℕ → ℕ → Type 0) → RunState → Mark → Line → Reply → RunState → Mark → Type 0
-Does trust Faulty old before (Open id stamp need) reply new after = CommandStep trust Faulty old before id (start_write stamp need) reply new after
-Does trust Faulty old before (Push id piece) reply new after = CommandStep trust Faulty old before id (push piece) reply new after
-Does trust Faulty old before (Finish id) reply new after = CommandStep trust Faulty old before id finish reply new after
-Does trust Faulty old before (Drop id) reply new after = CommandStep trust Faulty old before id drop_write reply new after
-Does trust Faulty old before (Write id stamp bytes) reply new after = CommandStep trust Faulty old before id (write stamp bytes) reply new after
-Does trust Faulty old before (Read id) reply new after = CommandStep trust Faulty old before id read reply new after
-Does trust Faulty old before (Delete id) reply new after = CommandStep trust Faulty old before id delete reply new after
-Does trust Faulty old before Reopen reply new after = Reopens trust old reply new
-Does trust Faulty old before Report reply new after = Reports old reply new
+Does trust Faulty old before (Client line) reply new after =
+    IsSomeAnd (command_of line) (λ command. CommandStep trust Faulty old before (block_of line) command reply new after)
+Does trust Faulty old before (Node Reopen) reply new after = Reopens trust old reply new
+Does trust Faulty old before (Node Report) reply new after = Reports old reply new
 Does trust Faulty old before line reply new after = ⊥
 
 -- one line: from this state and these counts it gives this reply and goes on to that state and those counts

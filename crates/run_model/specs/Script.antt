@@ -1,11 +1,11 @@
 -- The commands of a script, and how it ends.
-use Rattle.std.specs.Prelude.{ℕ, ◌+◌, Bool, true, false, if◌then◌else◌, List, [], ◌∷◌, ◌++◌, length, Result, Ok, Err}
+use Rattle.std.specs.Prelude.{ℕ, ◌+◌, if◌then◌else◌, List, [], ◌∷◌, ◌++◌, length, Result, Ok, Err}
 use Rattle.line_io.specs.Lines.{terminated_lines, line_text, passes_limit}
 use Rattle.script_lang.specs.declared.LineFault.{LineFault}
 use Rattle.script_lang.specs.declared.LineFault.TheVariants.{Bad, Memory}
-use Rattle.script_lang.specs.declared.Line.{Line}
-use Rattle.script_lang.specs.declared.Line.TheVariants.{Blank, Open, Push, Finish, Drop, Write, Read, Delete, Reopen, Report}
+use Rattle.script_lang.specs.declared.line.Line.{Line}
 use Rattle.script_lang.specs.Script.{line_of}
+use Rattle.run_model.specs.Asking.{is_blank, is_carried}
 
 -- at the end of the input, at the first line outside the language with the column of the word that does not fit, at the
 -- first line that passes a limit, or at the first one that is not carried out yet
@@ -26,24 +26,6 @@ stops stop = record { commands = []; stop = stop }
 -- commands, and then a script
 abbrev pub prepend : List Line → Script → Script
 prepend commands rest = record { commands = commands ++ rest.commands; stop = rest.stop }
-
--- an empty line or a comment
-abbrev pub is_blank : Line → Bool
-is_blank Blank = true
-is_blank line = false
-
--- the commands that are carried out
-abbrev pub is_carried : Line → Bool
-is_carried (Open id stamp need) = true
-is_carried (Push id piece) = true
-is_carried (Finish id) = true
-is_carried (Drop id) = true
-is_carried (Write id stamp bytes) = true
-is_carried (Read id) = true
-is_carried (Delete id) = true
-is_carried Reopen = true
-is_carried Report = true
-is_carried line = false
 
 -- a line, and those behind it: the script stops at a command that isn't carried out yet
 abbrev pub goes_on : ℕ → Line → Script → Script

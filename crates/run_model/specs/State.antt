@@ -1,7 +1,7 @@
 -- The state of a run, the disks' counts beside it, and the lines that were carried out.
 use Rattle.std.specs.Prelude.{ℕ, List, [], ◌∷◌, map}
 use Rattle.disk_model.specs.Marks.{Mark}
-use Rattle.script_lang.specs.declared.Line.{Line}
+use Rattle.script_lang.specs.declared.line.Line.{Line}
 use Rattle.script_lang.specs.declared.reply.Reply.{Reply}
 use Rattle.map_model.specs.Cells.{Cells}
 use Rattle.map_model.specs.Sound.{Metas}

@@ -1,5 +1,5 @@
 -- What opening a pool again shows, and what a crash can leave meanwhile.
-use Rattle.std.proofs.Common.{◌≡◌, inl, inr, ℕ, List, length, Option, Some, None, MatchOption, IfSome, refl, ap, sym, ◌∙◌, subst, IsTrue, IsSome}
+use Rattle.std.proofs.Common.{◌≡◌, inl, inr, ℕ, List, length, Option, Some, None, MatchOption, IfSome, IsSomeAnd, refl, ap, sym, ◌∙◌, subst, IsTrue, IsSome}
 use Rattle.std.specs.Prelude.{Result, Ok, Err, OnOk, OnErr}
 use Rattle.disk_model.specs.Files.{Files}
 use Rattle.disk_model.specs.Worlds.{World}
@@ -8,14 +8,14 @@ use Rattle.disk_model.specs.Moments.{AddsOnly}
 use Rattle.disk_model.specs.Marks.{Mark}
 use Rattle.volume_layout.specs.Paths.{IsBlockId}
 use Rattle.map_model.specs.Cells.{Replica, Cell, Cells, absent, final, growing, unsure, waiting}
-use Rattle.map_model.specs.Copies.{Spot, BlockFiles, IsCopy, IsAlone, ReadsAs, OneWhole}
+use Rattle.map_model.specs.Copies.{Spot, own_spot, spot_rank, BlockFiles, IsCopy, IsGreatestCopy, IsAlone, ReadsAs, OneWhole}
 use Rattle.map_model.specs.Allows.{AllowsFiles, AllowsImage}
 use Rattle.map_model.specs.Openings.{LeavesBlockFile, WaitsExactly, MakesCell, shown_files}
 use Rattle.volume_layout.specs.declared.block_file.BlockFile.{BlockFile}
 use Rattle.volume_layout.specs.declared.block_file.BlockFile.TheVariants.{Block, WritingBlock}
-use Rattle.map_model.specs.Slots.{is_standing, View, files_in, view_of}
+use Rattle.map_model.specs.Slots.{Slot, is_standing, bytes_in, View, files_in, view_of}
 use Rattle.map_model.specs.Sound.{Knowledge, matching, exactly, Fits, HasSoundCopies, IsSound}
-use Rattle.map_model.specs.Stands.{EntryState, is_final, is_written, in_doubt, is_waiting, base_of, Entry, Leftover, Ticket, BlockBooks, Agrees, WritesOver, WriterStands, BlockStands}
+use Rattle.map_model.specs.Stands.{EntryState, is_final, is_written, in_doubt, is_waiting, base_of, Entry, Leftover, Ticket, BlockBooks, Agrees, WritesOver, WriterStands, PairStands, LeftoversAreCopies, BlockStands}
 use Rattle.map_model.specs.Steps.{FoundAs, Reopened}
 use Rattle.map_model.proofs.LawProofs.{block_allows}
 use Rattle.map_model.proofs.Soundness.{block_is_sound}
@@ -24,17 +24,18 @@ use Rattle.map_model.proofs.SlotLemmas.{bytes-standing}
 use Rattle.map_model.specs.Tenures.{books_of}
 use Rattle.map_model.proofs.Owned.{IsOwn, own_file}
 use Rattle.pool_state.specs.Rooms.{Choosing}
-use Rattle.pool_state.specs.Stands.{PoolStands}
-use Rattle.pool_state.proofs.Whole.{block_whole}
+use Rattle.pool_state.specs.Stands.{BooksFit, PoolStands}
+use Rattle.pool_state.proofs.Whole.{IsWholeIn, block_whole}
 use Rattle.pair_draft.specs.Writers.{Writer}
 use Rattle.pool_open.specs.Numbering.{ChoosesAnew, first_revision}
-use Rattle.pool_open.specs.Outcome.{HasFiles, HasWholeFiles, ReadsAsOne, IsOpened, Opens}
+use Rattle.pool_open.specs.Outcome.{KeptOn, HasFiles, HasWholeFiles, ReadsAsOne, IsOpened, Opens}
 use Rattle.pool_open.proofs.Shown.{shown_view}
-use Rattle.script_lang.specs.declared.Line.TheVariants.{Reopen}
+use Rattle.script_lang.specs.declared.line.Line.TheVariants.{Node}
+use Rattle.script_lang.specs.declared.line.NodeLine.TheVariants.{Reopen}
 use Rattle.script_lang.specs.declared.reply.Reply.TheVariants.{Done}
 use Rattle.run_model.specs.State.{RunState}
 use Rattle.run_model.specs.Commands.{Trust, any_disks, telling_disks, sound_disks}
-use Rattle.run_model.specs.Lines.{CellsReopened}
+use Rattle.run_model.specs.Lines.{CellsReopened, IsOnVolumeOf, StayOnVolumes, VolumesReopened}
 use Rattle.run_model.specs.Images.{StaysCrashSafe}
 use Rattle.run_model.specs.Carrying.{IsKnown, LineCarried}
 use Rattle.run_session.specs.Standing.{Standing}
@@ -142,6 +143,25 @@ module _ (M : List ℕ → Replica → Type 0) (view : View) (books : BlockBooks
         | inr (inr gone) ↦ inr (inr (gone.0, subst (λ (r : Option Replica). FoundAs r new) gone.1 seen))
       ]
 
+-- where a replica's pair stands, a block file does
+pair_block : (M : List ℕ → Replica → Type 0) (view : View) (vol : ℕ) (replica : Replica) → PairStands M view vol replica → IsSome ((files_in view).block (own_spot vol))
+pair_block M view vol replica pair = subst (λ (slot : Slot). IsSome (bytes_in slot)) (sym pair.block_file) refl
+
+-- the only block file stands where the replica's does
+stays_with : (M : List ℕ → Replica → Type 0) (view : View) (left : List Leftover) (replica : Replica) → IsWholeIn view → (was now : Option Entry) →
+    IsSomeAnd was (λ e. PairStands M view e.vol replica × LeftoversAreCopies view left e.vol) →
+    IsSomeAnd now (λ e. IsGreatestCopy (files_in view) (own_spot e.vol) replica) → IfSome was (λ e. IsSomeAnd now (λ f. f.vol ≡ e.vol))
+stays_with M view left replica whole None now pair greatest = tt
+stays_with M view left replica whole (Some e) None pair greatest = greatest
+stays_with M view left replica whole (Some e) (Some f) pair greatest =
+    sym (ap spot_rank ((whole (own_spot f.vol) replica greatest.copy).no_block (own_spot e.vol) (pair_block M view e.vol replica pair.0)))
+
+-- the copy that is read of a block stands on the volume of its replica
+block_stays : (M : List ℕ → Replica → Type 0) (view : View) {volumes : ℕ} (books books' : BlockBooks) (replica : Replica) → BooksFit volumes books (final replica) →
+    BlockStands M view books (final replica) → KeptOn (files_in view) books' replica → IsOnVolumeOf books books'
+block_stays M view books books' replica fit stands kept =
+    stays_with M view books.leftovers replica (block_whole M view books (final replica) fit stands) books.entry books'.entry stands.content kept
+
 -- ---- the pool
 
 module _ {told : Option (List World)} {volumes : ℕ} {books : ℕ → BlockBooks} {known : Knowledge} {cells : Cells}
@@ -156,6 +176,12 @@ module _ {told : Option (List World)} {volumes : ℕ} {books : ℕ → BlockBook
     pub cell_reopened : (new : Cell) → MakesCell (shown_files world id) new → IsOpened new → Reopened (cells id) new
     cell_reopened new made opened = block_reopened (Fits known id) (view_of world id) (books id) (stands.fit id valid).fresh new
         (subst (λ (f : BlockFiles). MakesCell f new) same made) opened (cells id) own
+
+    -- a replica's copy that is read of it stands on the replica's volume
+    pub stays_on_volume : (replica : Replica) → cells id ≡ final replica → (books' : BlockBooks) → KeptOn (shown_files world id) books' replica → IsOnVolumeOf (books id) books'
+    stays_on_volume replica holds books' kept = block_stays (Fits known id) (view_of world id) (books id) books' replica
+        (subst (BooksFit volumes (books id)) holds (stands.fit id valid)) (subst (BlockStands (Fits known id) (view_of world id) (books id)) holds own)
+        (subst (λ (f : BlockFiles). KeptOn f books' replica) same kept)
 
     world_allowed : AllowsFiles (cells id) (shown_files world id)
     world_allowed = subst (λ (f : BlockFiles). AllowsFiles (cells id) f) (sym same) (block_allows (Fits known id) (view_of world id) (books id) (cells id) own)
@@ -193,7 +219,7 @@ pub carried_reopen : {Faulty : ℕ → ℕ → Type 0} {choosing choosing' : Cho
     {writers writers' : ℕ → Option Writer} {state : RunState} {before after : Mark} {past since : ℕ → Files → Type 0} → Standing choosing told volumes books writers state →
     (opens : Opens told told' volumes' books' past since) → ChoosesAnew choosing.shares (first_revision choosing.next_rev) books' choosing' → length choosing.shares ≡ volumes' →
     ((id : ℕ) → writers' id ≡ None) → AddsOnly past since (ReadsAsOne told) → ((id : ℕ) → (books' id).ticket ≡ None) →
-    LineCarried Faulty told state before Reopen Done after (Standing choosing' told' volumes' books' writers') (PoolStands told volumes books matching) (PoolStands told' volumes' books' matching) past since
+    LineCarried Faulty told state before (Node Reopen) Done after (Standing choosing' told' volumes' books' writers') (PoolStands told volumes books matching) (PoolStands told' volumes' books' matching) past since
 carried_reopen {choosing = choosing} {choosing' = choosing'} {told = told} {volumes = volumes} {books = books} {books' = books'} {writers' = writers'} {state = state} standing opens anew shared none images free = record {
   new = opened_of opens.cells state.metas state.writers books' choosing';
   stands = stands_opened writers' opens (opens.stands_by (exactly state.metas) (worlds_known standing.pool)) state.writers none;
@@ -203,6 +229,7 @@ carried_reopen {choosing = choosing} {choosing' = choosing'} {told = told} {volu
     metas = refl;
     writers = λ id. refl;
     choosing = subst (λ (c : Choosing). ChoosesAnew c.shares (first_revision c.next_rev) books' choosing') (sym standing.chooses_by) anew;
+    placed = placed_by trust known;
     books = λ id valid. books_opened (length state.choosing.shares) (sym shared ∙ ap (λ (c : Choosing). length c.shares) (sym standing.chooses_by)) free opens.stands id valid (opens.opened id valid);
   };
   crash = record {
@@ -217,6 +244,23 @@ carried_reopen {choosing = choosing} {choosing' = choosing'} {told = told} {volu
     by_telling known =
         let shows = opens.shown known in
         λ id valid. cell_reopened standing.pool shows.world shows.is id valid (opens.cells id) (shows.made id valid) (opens.opened id valid)
+
+    found_final : (id : ℕ) → IsBlockId id → IsSome told → (replica : Replica) → state.cells id ≡ final replica → opens.cells id ≡ final replica
+    found_final id valid known replica holds = subst (λ (cell : Cell). Reopened cell (opens.cells id)) holds (by_telling known id valid)
+
+    told_volumes : IsSome told → (id : ℕ) → IsBlockId id → (replica : Replica) → state.cells id ≡ final replica → IsOnVolumeOf (books id) (books' id)
+    told_volumes known id valid replica holds =
+        let shows = opens.shown known in
+        stays_on_volume standing.pool shows.world shows.is id valid replica holds (books' id) (shows.placed id valid replica (found_final id valid known replica holds))
+
+    on_volumes : IsSome told → StayOnVolumes state (opened_of opens.cells state.metas state.writers books' choosing')
+    on_volumes known id valid replica holds = subst (λ (b : BlockBooks). IsOnVolumeOf b (books' id)) (sym (standing.said id)) (told_volumes known id valid replica holds)
+
+    placed_by : (trust : Trust) → IsKnown (PoolStands told volumes books matching state.cells) trust told →
+        VolumesReopened trust state (opened_of opens.cells state.metas state.writers books' choosing')
+    placed_by any_disks known = tt
+    placed_by telling_disks known = on_volumes known
+    placed_by sound_disks known = on_volumes known.0
 
     by_trust : (trust : Trust) → IsKnown (PoolStands told volumes books matching state.cells) trust told → CellsReopened trust state.cells opens.cells
     by_trust any_disks known = opens.opened

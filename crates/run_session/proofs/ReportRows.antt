@@ -7,7 +7,8 @@ use Rattle.pair_draft.specs.Writers.{Writer}
 use Rattle.map_model.specs.Cells.{Cells}
 use Rattle.map_model.specs.Stands.{BlockBooks}
 use Rattle.replica_map.proofs.BlockSums.{sums_by}
-use Rattle.script_lang.specs.declared.Line.TheVariants.{Report as ReportLine}
+use Rattle.script_lang.specs.declared.line.Line.TheVariants.{Node as OfNode}
+use Rattle.script_lang.specs.declared.line.NodeLine.TheVariants.{Report as ReportLine}
 use Rattle.script_lang.specs.declared.reply.Reply.{Reply}
 use Rattle.script_lang.specs.declared.reply.Reply.TheVariants.{Node}
 use Rattle.script_lang.specs.declared.reply.node_reply.NodeReply.TheVariants.{Report}
@@ -52,7 +53,7 @@ module _ {shares shares' : List ℕ} {books books' : ℕ → BlockBooks} (same_s
 pub carried_report : {Faulty : ℕ → ℕ → Type 0} {choosing : Choosing} {told : Option (List World)} {volumes : ℕ} {books : ℕ → BlockBooks} {writers : ℕ → Option Writer} {state : RunState}
     {mark : Mark} {Sound : Cells → Type 0} {past : ℕ → Files → Type 0} → Standing choosing told volumes books writers state → length choosing.shares ≡ volumes → (reply : Reply) (leftovers : ℕ) (rows : List VolumeRow) →
     reply ≡ Node (Report (length rows) leftovers rows) → length rows ≡ volumes → ShowRows choosing.shares books 1 rows → AreLoose books leftovers →
-    LineCarried Faulty told state mark ReportLine reply mark (Standing choosing told volumes books writers) Sound Sound past past
+    LineCarried Faulty told state mark (OfNode ReportLine) reply mark (Standing choosing told volumes books writers) Sound Sound past past
 carried_report {choosing = choosing} {books = books} {state = state} {Sound = Sound} {past = past} standing shared reply leftovers rows is counted show loose =
     let same_shares : state.choosing.shares ≡ choosing.shares = ap (λ (c : Choosing). c.shares) standing.chooses_by in
     record {

@@ -1,5 +1,5 @@
 -- Steps of the commands, and what their replies say.
-use Rattle.std.proofs.Common.{◌≡◌, ◌⊎◌, ◌<◌, ◌≤◌, ◌^◌, inl, inr, ℕ, MatchOption, true, false, List, length, take, Option, None, Some, refl, sym, ◌∙◌, ap, subst, arith, IsSome, IsTrue, IfSome, option_map, is_some, nat_lt, ◌==◌, if◌then◌else◌}
+use Rattle.std.proofs.Common.{◌≡◌, ◌≢◌, ◌⊎◌, ◌<◌, ◌≤◌, ◌^◌, inl, inr, ℕ, MatchOption, true, false, List, length, take, Option, None, Some, refl, sym, ◌∙◌, ap, subst, arith, IsSome, IsTrue, IfSome, option_map, is_some, nat_lt, ◌==◌, if◌then◌else◌}
 use Rattle.std.proofs.lemmas.Bool.{cases_eq, eq-eqb, ne_eqb}
 use Rattle.std.proofs.lemmas.Bool.Decides.{nat_tests}
 use Rattle.std.proofs.lemmas.Option.{same_Some}
@@ -15,15 +15,15 @@ use Rattle.pool_state.specs.declared.deleting.DeleteFault.TheVariants.{None as N
 use Rattle.pool_state.specs.Answers.{start_fault, delete_fault}
 use Rattle.pool_state.proofs.AnyRoom.{any_room}
 use Rattle.meta_file.specs.declared.verdict.Verdict.{Verdict}
-use Rattle.meta_file.specs.declared.verdict.Verdict.TheVariants.{Whole}
+use Rattle.meta_file.specs.declared.verdict.Verdict.TheVariants.{Whole, BadChunk, Count, Short, Meta}
 use Rattle.meta_file.specs.Verdicts.{verdict_of}
 use Rattle.pair_draft.specs.Checking.{IsOnLength}
 use Rattle.pair_draft.specs.Writers.{Writer, FailedOf}
 use Rattle.map_model.specs.Sound.{Metas, Verifies, exactly, with_meta}
 use Rattle.pool_state.specs.Readers.{Lends, IsFaulty}
 use Rattle.script_lang.specs.declared.reply.Reply.{Reply}
-use Rattle.script_lang.specs.declared.reply.Reply.TheVariants.{Data}
-use Rattle.script_lang.specs.declared.Line.{Line}
+use Rattle.script_lang.specs.declared.reply.Reply.TheVariants.{Data, Bad}
+use Rattle.script_lang.specs.declared.line.Line.{Line}
 use Rattle.run_model.specs.State.{Numbers, RunState}
 use Rattle.disk_model.specs.Files.{Files}
 use Rattle.disk_model.specs.Marks.{GivenBetween, Mark}
@@ -178,6 +178,14 @@ module _ (cell : Cell) (replica : Replica) (is : cell ≡ final replica) where
   pub not_waiting : cell ≡ waiting → ⊥
   not_waiting waits = let bad : final replica ≡ waiting = sym is ∙ waits in cc
 
+-- the reply to a read of a replica that isn't whole
+bad_reply : (verdict : Verdict) → verdict ≢ Whole → (stamp : ℕ) (bytes : List ℕ) → ◌≡◌ {A = Reply} (Bad verdict) (read_reply stamp bytes verdict)
+bad_reply Whole not stamp bytes = absurd (not refl)
+bad_reply (BadChunk chunk stored computed) not stamp bytes = refl
+bad_reply (Count want have) not stamp bytes = refl
+bad_reply (Short want have) not stamp bytes = refl
+bad_reply (Meta fault) not stamp bytes = refl
+
 -- what a read gives that isn't refused
 module _ {told : Option (List World)} {metas : Metas} {id : ℕ} {cell : Cell} {stamp len : ℕ} {block_bytes meta_bytes : Option (List ℕ)} (lent : Lends (exactly metas) id told cell stamp len block_bytes meta_bytes) (Sound : Type 0) where
   -- the replica was whole
@@ -201,22 +209,22 @@ module _ {told : Option (List World)} {metas : Metas} {id : ℕ} {cell : Cell} {
       by_trust sound_disks known = is_data known.0
 
   -- it wasn't: such a verdict never comes of disks that began sound
-  pub gives_verdict : (verdict : Verdict) (reply : Reply) → ((s : ℕ) (bytes : List ℕ) → reply ≡ read_reply s bytes verdict) → IsOnLength len verdict →
+  pub gives_verdict : (verdict : Verdict) → verdict ≢ Whole → IsOnLength len verdict →
       ((sums : List ℕ) → block_bytes ≡ Some lent.replica.bytes → meta_bytes ≡ Some sums → length sums < 2 ^ 64 → verdict ≡ verdict_of sums lent.replica.bytes len) →
-      (IsSome told → Sound → ⊥) → (trust : Trust) → IsKnown Sound trust told → Gives trust (metas id lent.replica.stamp) lent.replica reply
-  gives_verdict verdict reply is on_length of never = by_trust
+      (IsSome told → Sound → ⊥) → (trust : Trust) → IsKnown Sound trust told → Gives trust (metas id lent.replica.stamp) lent.replica (Bad verdict)
+  gives_verdict verdict not_whole on_length of never = by_trust
     where
-      by_trust : (trust : Trust) → IsKnown Sound trust told → Gives trust (metas id lent.replica.stamp) lent.replica reply
+      by_trust : (trust : Trust) → IsKnown Sound trust told → Gives trust (metas id lent.replica.stamp) lent.replica (Bad verdict)
       by_trust any_disks known = record {
         bytes = lent.replica.bytes;
         len = refl;
         verdict = verdict;
         on_length = subst (λ n. IsOnLength n verdict) lent.len_is on_length;
-        reply_is = is lent.replica.stamp lent.replica.bytes;
+        reply_is = bad_reply verdict not_whole lent.replica.stamp lent.replica.bytes;
       }
       by_trust telling_disks known =
           let it = lent.meta_is known in
-          is lent.replica.stamp lent.replica.bytes
+          bad_reply verdict not_whole lent.replica.stamp lent.replica.bytes
           ∙ ap (read_reply lent.replica.stamp lent.replica.bytes) (of it.content (lent.bytes_are known) it.is it.few ∙ ap (verdict_of it.content lent.replica.bytes) lent.len_is
           ∙ ap (λ m. verdict_of m lent.replica.bytes (length lent.replica.bytes)) it.matches)
       by_trust sound_disks known = absurd (never known.0 known.1)

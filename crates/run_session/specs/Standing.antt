@@ -18,7 +18,7 @@ use Rattle.pool_state.specs.Stands.{PoolStands, Stands}
 use Rattle.pair_draft.specs.Writers.{Writer, writer_of}
 use Rattle.pool_state.specs.Writers.{WriterStands}
 use Rattle.script_lang.specs.declared.reply.Reply.{Reply}
-use Rattle.script_lang.specs.declared.Line.{Line}
+use Rattle.script_lang.specs.declared.line.Line.{Line}
 use Rattle.run_session.specs.declared.session.Session.{Session}
 use Rattle.run_model.specs.State.{Numbers, RunState}
 use Rattle.run_model.specs.Carrying.{CarriesOut, LineCarried}

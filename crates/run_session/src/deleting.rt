@@ -1,5 +1,6 @@
 //! Deleting a block.
 ghost use Rattle.std.specs.Prelude.{◌<◌, Some};
+ghost use Rattle.pool_state.specs.Foreign.{LeavesForeign};
 ghost use Rattle.map_model.specs.Steps.{delete};
 ghost use Rattle.disk_model.specs.Marks.{GoesOn};
 ghost use Rattle.run_model.specs.State.{RunState};
@@ -18,6 +19,7 @@ impl<D: PoolDisks> Session<D> {
         ensures step { (state : RunState) → SessionStands self.old state →
             SessionCarriesOut state id delete result self.old self.new }
         ensures goes_on { GoesOn D.PoolDisks self.old.pool.disks self.new.pool.disks }
+        ensures foreign { LeavesForeign D.PoolDisks self.old.pool.disks self.new.pool.disks }
     {
         if let Some(fault) = self.pool.delete_refusal(id) {
             return delete_refusal_of(fault);

@@ -1,5 +1,6 @@
 //! Giving up a write.
 ghost use Rattle.std.specs.Prelude.{◌<◌, Some};
+ghost use Rattle.pool_state.specs.Foreign.{LeavesForeign};
 ghost use Rattle.map_model.specs.Steps.{drop_write};
 ghost use Rattle.disk_model.specs.Marks.{GoesOn};
 ghost use Rattle.run_model.specs.State.{RunState};
@@ -17,6 +18,7 @@ impl<D: PoolDisks> Session<D> {
         ensures step { (state : RunState) → SessionStands self.old state →
             SessionCarriesOut state id drop_write result self.old self.new }
         ensures goes_on { GoesOn D.PoolDisks self.old.pool.disks self.new.pool.disks }
+        ensures foreign { LeavesForeign D.PoolDisks self.old.pool.disks self.new.pool.disks }
     {
         let Some(writer) = self.writers.remove(id) else {
             return Reply::NoWriter;

@@ -13,7 +13,6 @@ mod reopening;
 mod reporting;
 mod session;
 mod starting;
-mod verdicts;
 mod writers;
 mod writing;
 

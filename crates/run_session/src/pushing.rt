@@ -1,5 +1,6 @@
 //! Adding to what a writer writes.
 ghost use Rattle.std.specs.Prelude.{◌<◌, Some};
+ghost use Rattle.pool_state.specs.Foreign.{LeavesForeign};
 ghost use Rattle.map_model.specs.Steps.{push};
 ghost use Rattle.disk_model.specs.Marks.{GoesOn};
 ghost use Rattle.run_model.specs.State.{RunState};
@@ -18,6 +19,7 @@ impl<D: PoolDisks> Session<D> {
         ensures step { (state : RunState) → SessionStands self.old state →
             SessionCarriesOut state id (push piece.now) result self.old self.new }
         ensures goes_on { GoesOn D.PoolDisks self.old.pool.disks self.new.pool.disks }
+        ensures foreign { LeavesForeign D.PoolDisks self.old.pool.disks self.new.pool.disks }
     {
         let Some(left) = self.writers.room_left(id) else {
             return Reply::NoWriter;

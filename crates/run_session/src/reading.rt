@@ -1,5 +1,6 @@
 //! Reading a replica.
 ghost use Rattle.std.specs.Prelude.{◌<◌};
+ghost use Rattle.pool_state.specs.Foreign.{LeavesForeign};
 ghost use Rattle.map_model.specs.Steps.{read};
 ghost use Rattle.disk_model.specs.Marks.{GoesOn};
 ghost use Rattle.run_model.specs.State.{RunState};
@@ -7,7 +8,6 @@ ghost use Rattle.run_session.specs.Standing.{SessionStands, SessionStandsForSome
 
 use crate::refusals::refusal_of;
 use crate::session::Session;
-use crate::verdicts::verdict_reply_of;
 use client_ops::{ReadEnd, read_all};
 use disk_model::PoolDisks;
 use script_lang::bytes::Bytes;
@@ -25,6 +25,7 @@ impl<D: PoolDisks> Session<D> {
         ensures step { (state : RunState) → SessionStands self.old state →
             SessionCarriesOut state id read result self.old self.new }
         ensures goes_on { GoesOn D.PoolDisks self.old.pool.disks self.new.pool.disks }
+        ensures foreign { LeavesForeign D.PoolDisks self.old.pool.disks self.new.pool.disks }
     {
         let pair = match self.pool.start_read(alloc, id) {
             Ok(pair) => pair,
@@ -40,7 +41,7 @@ impl<D: PoolDisks> Session<D> {
                 bytes: Bytes::new(bytes),
             },
             Err(ReadEnd::Failed) => Reply::Failed,
-            Err(ReadEnd::Bad(verdict)) => verdict_reply_of(verdict),
+            Err(ReadEnd::Bad(verdict)) => Reply::Bad(verdict),
             Err(ReadEnd::Memory) => Reply::Memory,
         }
     }

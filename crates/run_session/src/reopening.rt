@@ -4,8 +4,9 @@ ghost use Rattle.disk_model.specs.Causes.{Rose};
 ghost use Rattle.disk_model.specs.Files.{Files};
 ghost use Rattle.disk_model.specs.Told.{CanLeave};
 ghost use Rattle.disk_model.specs.Marks.{GoesOn};
-ghost use Rattle.pool_open.specs.Outcome.{HasTwoMetas};
-ghost use Rattle.script_lang.specs.declared.Line.TheVariants.{Reopen};
+ghost use Rattle.pool_state.specs.Foreign.{LeavesForeign};
+ghost use Rattle.script_lang.specs.declared.line.Line.TheVariants.{Node};
+ghost use Rattle.script_lang.specs.declared.line.NodeLine.TheVariants.{Reopen};
 ghost use Rattle.script_lang.specs.declared.reply.Reply.TheVariants.{Done};
 ghost use Rattle.run_model.specs.State.{RunState};
 ghost use Rattle.run_model.specs.Images.{StaysCrashSafe};
@@ -23,13 +24,13 @@ impl<D: PoolDisks> Session<D> {
     pub fn reopen(&mut self, alloc: Global) -> Result<(), ReopenFault>
         requires stands { SessionStandsForSome self.old }
         ensures ok { (state : RunState) → SessionStands self.old state →
-            OnOk result (SessionCarriesLine state Reopen Done self.old self.new) }
+            OnOk result (SessionCarriesLine state (Node Reopen) Done self.old self.new) }
         ensures err { (state : RunState) → SessionStands self.old state →
             OnErr result (StaysCrashSafe state.cells (SoundFor self.old)
             (D.left_since self.old.pool.disks) (D.left_since self.new.pool.disks)) }
         ensures failed { IsErrOf result ReopenFault.Failed → Rose (D.faults self.old.pool.disks) (D.faults self.new.pool.disks) }
-        ensures two_metas { IsErrOf result ReopenFault.Later → (image : Files) → CanLeave (D.worlds self.new.pool.disks) image → HasTwoMetas image }
         ensures goes_on { GoesOn D.PoolDisks self.old.pool.disks self.new.pool.disks }
+        ensures foreign { LeavesForeign D.PoolDisks self.old.pool.disks self.new.pool.disks }
     {
         self.writers = OpenWriters::new(alloc);
         reopen_pool(alloc, &mut self.pool)

@@ -2,7 +2,8 @@
 ghost use Rattle.std.specs.Prelude.{◌≡◌, ◌≤◌, ◌++◌, [], ◌∷◌, IfOk, OnOk, length};
 ghost use Rattle.pool_state.specs.Books.{block_books};
 ghost use Rattle.pool_state.specs.Rooms.{choosing_of};
-ghost use Rattle.script_lang.specs.declared.Line.TheVariants.{Report};
+ghost use Rattle.script_lang.specs.declared.line.Line.TheVariants.{Node};
+ghost use Rattle.script_lang.specs.declared.line.NodeLine.TheVariants.{Report};
 ghost use Rattle.run_model.specs.Reports.{ShowRows};
 ghost use Rattle.run_model.specs.State.{RunState};
 ghost use Rattle.run_session.specs.Standing.{SessionStands, SessionStandsForSome, SessionCarriesLine};
@@ -41,7 +42,7 @@ impl<D: PoolDisks> Session<D> {
     pub fn report(&self, alloc: Global) -> Result<Reply, AllocError>
         requires stands { SessionStandsForSome self.now }
         ensures { (state : RunState) → SessionStands self.now state →
-            IfOk result (λ reply. SessionCarriesLine state Report reply self.now self.now) }
+            IfOk result (λ reply. SessionCarriesLine state (Node Report) reply self.now self.now) }
     {
         let rows = rows_of(alloc, &self.pool)?;
         Ok(Reply::Node(NodeReply::Report {

@@ -1,5 +1,6 @@
 //! Writing a whole block in one line.
 ghost use Rattle.std.specs.Prelude.{◌<◌};
+ghost use Rattle.pool_state.specs.Foreign.{LeavesForeign};
 ghost use Rattle.map_model.specs.Steps.{write};
 ghost use Rattle.disk_model.specs.Marks.{GoesOn};
 ghost use Rattle.run_model.specs.State.{RunState};
@@ -20,6 +21,7 @@ impl<D: PoolDisks> Session<D> {
         ensures step { (state : RunState) → SessionStands self.old state →
             SessionCarriesOut state id (write stamp piece.now) result self.old self.new }
         ensures goes_on { GoesOn D.PoolDisks self.old.pool.disks self.new.pool.disks }
+        ensures foreign { LeavesForeign D.PoolDisks self.old.pool.disks self.new.pool.disks }
     {
         if let Some(fault) = self.pool.write_refusal(id, piece.len() as u64) {
             return refusal_of(fault);

@@ -15,7 +15,6 @@ pub mod ServeScript
 pub mod ServeRanges
 pub mod ReplyWords
 pub mod Skip
-pub mod Verdict
 pub mod Kept
 pub mod CursorMember
 pub mod PlanMember

@@ -2,7 +2,7 @@
 use Rattle.std.specs.Prelude.{ℕ, List, codes}
 use Rattle.script_lang.specs.ReplyWords.{and_number, and_text}
 use Rattle.script_lang.specs.Skip.{skip_text}
-use Rattle.script_lang.specs.Verdict.{verdict_text}
+use Rattle.meta_file.specs.Texts.{verdict_text}
 use Rattle.script_lang.specs.declared.reply.mover_reply.MoverReply.{MoverReply}
 use Rattle.script_lang.specs.declared.reply.mover_reply.MoverReply.TheVariants.{Idle, StepDone, StepErrorLimit, StepNoBlock, Task, Moving, Skipped, NoneIn, NoBlock, Failed, Worn, Memory, Copied, Bad, Sealed, Moved, Dropped, Counted, Stale, Swept, Nothing, SweepFailed, Rest}
 

@@ -3,7 +3,7 @@ use Rattle.std.specs.Prelude.{ℕ, List, codes}
 use Rattle.script_lang.specs.ReplyWords.{and_number, and_text}
 use Rattle.script_lang.specs.CursorMember.{cursor_member_text}
 use Rattle.script_lang.specs.Kept.{kept_text}
-use Rattle.script_lang.specs.Verdict.{verdict_text}
+use Rattle.meta_file.specs.Texts.{verdict_text}
 use Rattle.script_lang.specs.declared.reply.scan_reply.ScanReply.{ScanReply}
 use Rattle.script_lang.specs.declared.reply.scan_reply.ScanReply.TheVariants.{Listed, Differences, NoListing, FixedIgnored, FixedLost, FixedFound, FixedRemoved, FixedKept, NoDifference, CursorAt, CursorAbsent, CursorSyntax, CursorMember, Block, AtEnd, Verdict, NoCheck, Noted, Gone, Changed, Unchecked}
 

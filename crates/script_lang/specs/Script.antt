@@ -1,8 +1,8 @@
 -- The lines of a script.
 use Rattle.std.specs.Prelude.{ℕ, ◌==◌, Bool, true, if◌then◌else◌, List, [], ◌∷◌, Result, Ok}
 use Rattle.script_lang.specs.declared.LineFault.{LineFault}
-use Rattle.script_lang.specs.declared.Line.{Line}
-use Rattle.script_lang.specs.declared.Line.TheVariants.{Blank}
+use Rattle.script_lang.specs.declared.line.Line.{Line}
+use Rattle.script_lang.specs.declared.line.Line.TheVariants.{Blank}
 use Rattle.script_lang.specs.declared.verb.Verb.{Verb}
 use Rattle.script_lang.specs.declared.verb.Verb.TheVariants.{Node, Client, Move, Balancer, Scan}
 use Rattle.script_lang.specs.declared.verb.NodeVerb.{NodeVerb}

@@ -1,7 +1,7 @@
 -- The lines of a script of jobs and clients.
 use Rattle.std.specs.Prelude.{ℕ, if◌then◌else◌, List, Result, Ok, Err}
 use Rattle.script_lang.specs.declared.LineFault.{LineFault}
-use Rattle.script_lang.specs.declared.Line.{Line}
+use Rattle.script_lang.specs.declared.line.Line.{Line}
 use Rattle.script_lang.specs.declared.serve.ServeLine.{ServeLine}
 use Rattle.script_lang.specs.declared.serve.ServeLine.TheVariants.{Blank, End, Report, Fill, Balance, Execute, DirScan, VolScan, Client}
 use Rattle.script_lang.specs.declared.serve_verb.ServeVerb.{ServeVerb}

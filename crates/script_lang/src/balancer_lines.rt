@@ -8,7 +8,7 @@ ghost use Rattle.script_lang.specs.declared.LineFault.TheVariants.{Memory};
 
 use crate::verb::BalancerVerb;
 use crate::words::Words;
-use crate::{Line, LineFault};
+use crate::{BalancerLine, Line, LineFault};
 use std::alloc::Global;
 
 /// The rest of a line that begins with this word.
@@ -23,9 +23,9 @@ pub fn read_balancer_line(
     match verb {
         BalancerVerb::Balance => read_balance(words),
         BalancerVerb::Execute => read_execute(alloc, words),
-        BalancerVerb::Query => words.end(Line::Query),
+        BalancerVerb::Query => words.end(Line::Balancer(BalancerLine::Query)),
         BalancerVerb::Cancel => read_cancel(alloc, words),
-        BalancerVerb::Mover => words.end(Line::Mover),
+        BalancerVerb::Mover => words.end(Line::Balancer(BalancerLine::Mover)),
     }
 }
 
@@ -35,7 +35,7 @@ pub fn read_balance(words: &mut Words) -> Result<Line, LineFault>
     ensures in_range { IfOk result IsLineInRange }
 {
     let t = words.percent()?;
-    words.end(Line::Balance { t })
+    words.end(Line::Balancer(BalancerLine::Balance { t }))
 }
 
 /// `execute ID VERSION FORCE JSON`.
@@ -47,12 +47,12 @@ pub fn read_execute(alloc: Global, words: &mut Words) -> Result<Line, LineFault>
     let version = words.number()?;
     let force = words.truth()?;
     let json = words.rest(alloc)?;
-    Ok(Line::Execute {
+    Ok(Line::Balancer(BalancerLine::Execute {
         id,
         version,
         force,
         json,
-    })
+    }))
 }
 
 /// `cancel ID`.
@@ -62,5 +62,5 @@ pub fn read_cancel(alloc: Global, words: &mut Words) -> Result<Line, LineFault>
     ensures client { IfOk result IsClientLine }
 {
     let id = words.text(alloc)?;
-    words.end(Line::Cancel { id })
+    words.end(Line::Balancer(BalancerLine::Cancel { id }))
 }

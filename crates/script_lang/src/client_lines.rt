@@ -8,7 +8,7 @@ ghost use Rattle.script_lang.specs.declared.LineFault.TheVariants.{Memory};
 
 use crate::verb::ClientVerb;
 use crate::words::Words;
-use crate::{Line, LineFault};
+use crate::{ClientLine, Line, LineFault};
 use std::alloc::Global;
 
 /// The rest of a line that begins with this word.
@@ -41,7 +41,7 @@ pub fn read_open(words: &mut Words) -> Result<Line, LineFault>
     let id = words.id()?;
     let stamp = words.stamp()?;
     let need = words.number()?;
-    words.end(Line::Open { id, stamp, need })
+    words.end(Line::Client(ClientLine::Open { id, stamp, need }))
 }
 
 /// `grow ID STAMP MORE`.
@@ -52,7 +52,7 @@ pub fn read_grow(words: &mut Words) -> Result<Line, LineFault>
     let id = words.id()?;
     let stamp = words.stamp()?;
     let more = words.number()?;
-    words.end(Line::Grow { id, stamp, more })
+    words.end(Line::Client(ClientLine::Grow { id, stamp, more }))
 }
 
 /// `push ID HEX`.
@@ -62,7 +62,7 @@ pub fn read_push(alloc: Global, words: &mut Words) -> Result<Line, LineFault>
 {
     let id = words.id()?;
     let hex = words.bytes(alloc)?;
-    words.end(Line::Push { id, hex })
+    words.end(Line::Client(ClientLine::Push { id, hex }))
 }
 
 /// `finish ID`.
@@ -71,7 +71,7 @@ pub fn read_finish(words: &mut Words) -> Result<Line, LineFault>
     ensures in_range { IfOk result IsLineInRange }
 {
     let id = words.id()?;
-    words.end(Line::Finish { id })
+    words.end(Line::Client(ClientLine::Finish { id }))
 }
 
 /// `drop ID`.
@@ -80,7 +80,7 @@ pub fn read_drop(words: &mut Words) -> Result<Line, LineFault>
     ensures in_range { IfOk result IsLineInRange }
 {
     let id = words.id()?;
-    words.end(Line::Drop { id })
+    words.end(Line::Client(ClientLine::Drop { id }))
 }
 
 /// `write ID STAMP HEX`.
@@ -92,7 +92,7 @@ pub fn read_write(alloc: Global, words: &mut Words) -> Result<Line, LineFault>
     let id = words.id()?;
     let stamp = words.stamp()?;
     let hex = words.bytes(alloc)?;
-    words.end(Line::Write { id, stamp, hex })
+    words.end(Line::Client(ClientLine::Write { id, stamp, hex }))
 }
 
 /// `append ID STAMP HEX`.
@@ -104,7 +104,7 @@ pub fn read_append(alloc: Global, words: &mut Words) -> Result<Line, LineFault>
     let id = words.id()?;
     let stamp = words.stamp()?;
     let hex = words.bytes(alloc)?;
-    words.end(Line::Append { id, stamp, hex })
+    words.end(Line::Client(ClientLine::Append { id, stamp, hex }))
 }
 
 /// `read ID`.
@@ -114,7 +114,7 @@ pub fn read_read(words: &mut Words) -> Result<Line, LineFault>
     ensures client { IfOk result IsClientLine }
 {
     let id = words.id()?;
-    words.end(Line::Read { id })
+    words.end(Line::Client(ClientLine::Read { id }))
 }
 
 /// `delete ID`.
@@ -124,5 +124,5 @@ pub fn read_delete(words: &mut Words) -> Result<Line, LineFault>
     ensures client { IfOk result IsClientLine }
 {
     let id = words.id()?;
-    words.end(Line::Delete { id })
+    words.end(Line::Client(ClientLine::Delete { id }))
 }

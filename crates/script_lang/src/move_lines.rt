@@ -6,7 +6,7 @@ ghost use Rattle.script_lang.specs.LineRanges.{IsLineInRange};
 
 use crate::verb::MoveVerb;
 use crate::words::Words;
-use crate::{Line, LineFault};
+use crate::{Line, LineFault, MoveLine};
 
 /// The rest of a line that begins with this word.
 pub fn read_move_line(verb: MoveVerb, words: &mut Words) -> Result<Line, LineFault>
@@ -19,7 +19,7 @@ pub fn read_move_line(verb: MoveVerb, words: &mut Words) -> Result<Line, LineFau
         MoveVerb::Seal => read_mseal(words),
         MoveVerb::Publish => read_mpublish(words),
         MoveVerb::Drop => read_mdrop(words),
-        MoveVerb::Sweep => words.end(Line::Sweep),
+        MoveVerb::Sweep => words.end(Line::Move(MoveLine::Sweep)),
     }
 }
 
@@ -30,7 +30,7 @@ pub fn read_mbegin(words: &mut Words) -> Result<Line, LineFault>
 {
     let id = words.id()?;
     let vol = words.volume()?;
-    words.end(Line::Mbegin { id, vol })
+    words.end(Line::Move(MoveLine::Begin { id, vol }))
 }
 
 /// `mcopy ID N`.
@@ -40,7 +40,7 @@ pub fn read_mcopy(words: &mut Words) -> Result<Line, LineFault>
 {
     let id = words.id()?;
     let n = words.number()?;
-    words.end(Line::Mcopy { id, n })
+    words.end(Line::Move(MoveLine::Copy { id, n }))
 }
 
 /// `mseal ID`.
@@ -49,7 +49,7 @@ pub fn read_mseal(words: &mut Words) -> Result<Line, LineFault>
     ensures in_range { IfOk result IsLineInRange }
 {
     let id = words.id()?;
-    words.end(Line::Mseal { id })
+    words.end(Line::Move(MoveLine::Seal { id }))
 }
 
 /// `mpublish ID`.
@@ -58,7 +58,7 @@ pub fn read_mpublish(words: &mut Words) -> Result<Line, LineFault>
     ensures in_range { IfOk result IsLineInRange }
 {
     let id = words.id()?;
-    words.end(Line::Mpublish { id })
+    words.end(Line::Move(MoveLine::Publish { id }))
 }
 
 /// `mdrop ID`.
@@ -67,5 +67,5 @@ pub fn read_mdrop(words: &mut Words) -> Result<Line, LineFault>
     ensures in_range { IfOk result IsLineInRange }
 {
     let id = words.id()?;
-    words.end(Line::Mdrop { id })
+    words.end(Line::Move(MoveLine::Drop { id }))
 }

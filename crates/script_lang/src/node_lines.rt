@@ -8,7 +8,7 @@ ghost use Rattle.script_lang.specs.declared.LineFault.TheVariants.{Memory};
 
 use crate::verb::NodeVerb;
 use crate::words::Words;
-use crate::{Line, LineFault};
+use crate::{Line, LineFault, NodeLine};
 use std::alloc::Global;
 
 /// The rest of a line that begins with this word.
@@ -19,8 +19,8 @@ pub fn read_node_line(alloc: Global, verb: NodeVerb, words: &mut Words) -> Resul
     match verb {
         NodeVerb::At => read_at(words),
         NodeVerb::Use => read_use(alloc, words),
-        NodeVerb::Reopen => words.end(Line::Reopen),
-        NodeVerb::Report => words.end(Line::Report),
+        NodeVerb::Reopen => words.end(Line::Node(NodeLine::Reopen)),
+        NodeVerb::Report => words.end(Line::Node(NodeLine::Report)),
         NodeVerb::Fill => read_fill(words),
     }
 }
@@ -31,7 +31,7 @@ pub fn read_at(words: &mut Words) -> Result<Line, LineFault>
     ensures in_range { IfOk result IsLineInRange }
 {
     let ms = words.number()?;
-    words.end(Line::At { ms })
+    words.end(Line::Node(NodeLine::At { ms }))
 }
 
 /// `use POOL`.
@@ -41,7 +41,7 @@ pub fn read_use(alloc: Global, words: &mut Words) -> Result<Line, LineFault>
     ensures client { IfOk result IsClientLine }
 {
     let pool = words.text(alloc)?;
-    words.end(Line::Use { pool })
+    words.end(Line::Node(NodeLine::Use { pool }))
 }
 
 /// `fill COUNT SEED`.
@@ -51,5 +51,5 @@ pub fn read_fill(words: &mut Words) -> Result<Line, LineFault>
 {
     let count = words.fill_count()?;
     let seed = words.number()?;
-    words.end(Line::Fill { count, seed })
+    words.end(Line::Node(NodeLine::Fill { count, seed }))
 }

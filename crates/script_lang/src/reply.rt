@@ -14,7 +14,6 @@ pub mod report;
 pub mod scan_reply;
 pub mod skip;
 pub mod step_end;
-pub mod verdict;
 
 ghost use Rattle.std.specs.Prelude.{◌≡◌, ◌+◌, ◌*◌, ◌^◌, ◌<◌, [], ◌∷◌, ◌++◌, IfOk, IfSome, OnOk};
 ghost use Rattle.hex.specs.Hex.{encode_lower};
@@ -28,6 +27,7 @@ use crate::reply::move_reply::{MoveReply, write_move_reply};
 use crate::reply::mover_reply::{MoverReply, write_mover_reply};
 use crate::reply::node_reply::{NodeReply, write_node_reply};
 use crate::reply::scan_reply::{ScanReply, write_scan_reply};
+use meta_file::Verdict;
 use std::alloc::{AllocError, Global};
 
 /// The answer to a line of a script. Its text is a line of ASCII, numbers in decimal and bytes in lower-case
@@ -37,10 +37,7 @@ pub enum Reply {
     /// `ok`: the command was carried out.
     Done,
     /// `data STAMP HEX`: the generation stamp of a block, and its bytes.
-    Data {
-        stamp: u64,
-        bytes: Bytes,
-    },
+    Data { stamp: u64, bytes: Bytes },
     /// `exists`: the block stands already.
     Exists,
     /// `none`: there is no such block.
@@ -52,62 +49,24 @@ pub enum Reply {
     /// `unsure`: the disks didn't tell whether the last write of the block took effect.
     Unsure,
     /// `oldstamp HAVE`: the new generation stamp isn't above the block's, which is HAVE.
-    OldStamp {
-        have: u64,
-    },
+    OldStamp { have: u64 },
     /// `full NEED FREE`: the command needs NEED bytes of room, and no volume has more than FREE.
-    Full {
-        need: u64,
-        free: u64,
-    },
+    Full { need: u64, free: u64 },
     /// `toolong LIMIT`: the block would have more than LIMIT bytes.
-    TooLong {
-        limit: u64,
-    },
+    TooLong { limit: u64 },
     /// `failed`: a call of the disks failed.
     Failed,
     /// `memory`: there is no memory for the command.
     Memory,
     /// `over LEFT`: more bytes were pushed than the LEFT that the writer may still take.
-    Over {
-        left: u64,
-    },
+    Over { left: u64 },
     /// `nowriter`: the block isn't being written.
     NoWriter,
     /// `worn`: the pool has no revision left for a new write.
     Worn,
-    /// `short WANT HAVE`: the disks gave HAVE bytes of a block of WANT bytes.
-    Short {
-        want: u64,
-        have: u64,
-    },
-    /// `badchunk CHUNK STORED COMPUTED`: the checksum of this chunk, counted from 0, isn't that of its bytes.
-    BadChunk {
-        chunk: u64,
-        stored: u32,
-        computed: u32,
-    },
-    /// `count WANT HAVE`: WANT bytes of checksums are to follow the header of a meta file, and HAVE do.
-    Count {
-        want: u128,
-        have: u128,
-    },
-    /// `badmeta short HAVE`: the meta file has HAVE bytes, which is less than a header.
-    BadMetaShort {
-        have: u64,
-    },
-    /// `badmeta version V`: the meta file is of another version.
-    BadMetaVersion {
-        v: u16,
-    },
-    /// `badmeta type T`: the meta file names no known type of checksum.
-    BadMetaType {
-        t: u8,
-    },
-    /// `badmeta step N`: the meta file names no number of bytes per checksum that may be.
-    BadMetaStep {
-        n: u32,
-    },
+    /// What the check of a replica says that isn't whole: `short WANT HAVE`, `badchunk CHUNK STORED COMPUTED`,
+    /// `count WANT HAVE`, or `badmeta` with the fault of a header.
+    Bad(Verdict),
     /// About the whole node.
     Node(NodeReply),
     /// About moves and leftovers.
@@ -142,17 +101,7 @@ pub fn write_reply(alloc: Global, reply: &Reply) -> Result<Vec<u8>, AllocError>
         Reply::Over { left } => format!(in alloc; "over {left}\n")?,
         Reply::NoWriter => format!(in alloc; "nowriter\n")?,
         Reply::Worn => format!(in alloc; "worn\n")?,
-        Reply::Short { want, have } => format!(in alloc; "short {want} {have}\n")?,
-        Reply::BadChunk {
-            chunk,
-            stored,
-            computed,
-        } => format!(in alloc; "badchunk {chunk} {stored} {computed}\n")?,
-        Reply::Count { want, have } => format!(in alloc; "count {want} {have}\n")?,
-        Reply::BadMetaShort { have } => format!(in alloc; "badmeta short {have}\n")?,
-        Reply::BadMetaVersion { v } => format!(in alloc; "badmeta version {v}\n")?,
-        Reply::BadMetaType { t } => format!(in alloc; "badmeta type {t}\n")?,
-        Reply::BadMetaStep { n } => format!(in alloc; "badmeta step {n}\n")?,
+        Reply::Bad(verdict) => format!(in alloc; "{verdict}\n")?,
         Reply::Node(reply) => return write_node_reply(alloc, reply),
         Reply::Move(reply) => return write_move_reply(alloc, reply),
         Reply::Balancer(reply) => return write_balancer_reply(alloc, reply),

@@ -6,7 +6,7 @@ ghost use Rattle.script_lang.specs.LineRanges.{IsLineInRange};
 
 use crate::verb::ScanVerb;
 use crate::words::Words;
-use crate::{Line, LineFault};
+use crate::{Line, LineFault, ScanLine};
 
 /// The rest of a line that begins with this word.
 pub fn read_scan_line(verb: ScanVerb, words: &mut Words) -> Result<Line, LineFault>
@@ -15,8 +15,8 @@ pub fn read_scan_line(verb: ScanVerb, words: &mut Words) -> Result<Line, LineFau
 {
     match verb {
         ScanVerb::DirList => read_dirlist(words),
-        ScanVerb::DirDiff => words.end(Line::Dirdiff),
-        ScanVerb::DirFix => words.end(Line::Dirfix),
+        ScanVerb::DirDiff => words.end(Line::Scan(ScanLine::DirDiff)),
+        ScanVerb::DirFix => words.end(Line::Scan(ScanLine::DirFix)),
         ScanVerb::VolLoad => read_volload(words),
         ScanVerb::VolNext => read_volnext(words),
         ScanVerb::VolCheck => read_volcheck(words),
@@ -33,7 +33,7 @@ pub fn read_dirlist(words: &mut Words) -> Result<Line, LineFault>
     let vol = words.volume()?;
     let d1 = words.subdir()?;
     let d2 = words.subdir()?;
-    words.end(Line::Dirlist { vol, d1, d2 })
+    words.end(Line::Scan(ScanLine::DirList { vol, d1, d2 }))
 }
 
 /// `volload VOL`.
@@ -42,7 +42,7 @@ pub fn read_volload(words: &mut Words) -> Result<Line, LineFault>
     ensures in_range { IfOk result IsLineInRange }
 {
     let vol = words.volume()?;
-    words.end(Line::Volload { vol })
+    words.end(Line::Scan(ScanLine::VolLoad { vol }))
 }
 
 /// `volnext VOL`.
@@ -51,7 +51,7 @@ pub fn read_volnext(words: &mut Words) -> Result<Line, LineFault>
     ensures in_range { IfOk result IsLineInRange }
 {
     let vol = words.volume()?;
-    words.end(Line::Volnext { vol })
+    words.end(Line::Scan(ScanLine::VolNext { vol }))
 }
 
 /// `volcheck VOL`.
@@ -60,7 +60,7 @@ pub fn read_volcheck(words: &mut Words) -> Result<Line, LineFault>
     ensures in_range { IfOk result IsLineInRange }
 {
     let vol = words.volume()?;
-    words.end(Line::Volcheck { vol })
+    words.end(Line::Scan(ScanLine::VolCheck { vol }))
 }
 
 /// `volreport VOL`.
@@ -69,7 +69,7 @@ pub fn read_volreport(words: &mut Words) -> Result<Line, LineFault>
     ensures in_range { IfOk result IsLineInRange }
 {
     let vol = words.volume()?;
-    words.end(Line::Volreport { vol })
+    words.end(Line::Scan(ScanLine::VolReport { vol }))
 }
 
 /// `cursor VOL`.
@@ -78,5 +78,5 @@ pub fn read_cursor(words: &mut Words) -> Result<Line, LineFault>
     ensures in_range { IfOk result IsLineInRange }
 {
     let vol = words.volume()?;
-    words.end(Line::Cursor { vol })
+    words.end(Line::Scan(ScanLine::Cursor { vol }))
 }

@@ -12,7 +12,7 @@ use crate::node_lines::read_use;
 use crate::serve_verb::{JobVerb, ServeVerb};
 use crate::text::Text;
 use crate::words::Words;
-use crate::{Line, LineFault, is_blank};
+use crate::{BalancerLine, Line, LineFault, is_blank};
 use std::alloc::Global;
 
 /// A line of a script of jobs and clients. Its words are as those of `Line`.
@@ -146,7 +146,7 @@ fn read_serve_line_after(
         ServeVerb::Append => client_of(read_append(alloc, words)),
         ServeVerb::Read => client_of(read_read(words)),
         ServeVerb::Delete => client_of(read_delete(words)),
-        ServeVerb::Query => client_of(words.end(Line::Query)),
+        ServeVerb::Query => client_of(words.end(Line::Balancer(BalancerLine::Query))),
         ServeVerb::Cancel => client_of(read_cancel(alloc, words)),
     }
 }

@@ -4,6 +4,7 @@ pub mod PathsApart
 mod Situations
 pub mod Lengths
 pub mod NameLemmas
-pub mod PoolFileProofs
+pub mod BlockFileProofs
 pub mod PlaceProofs
 pub mod OneName
+pub mod OtherFiles

@@ -1,6 +1,7 @@
 -- The files of one block on a volume, and their paths.
-use Rattle.std.specs.Prelude.{ℕ, Bool, true, false, ◌==◌, List, codes}
-use Rattle.volume_layout.specs.Paths.{is_stamp, block_name, meta_name, own_dir, block_path, meta_path, rbw_block, rbw_meta, tmp_block, tmp_meta}
+use Rattle.std.specs.Prelude.{ℕ, ◌≡◌, Bool, true, false, IsTrue, ◌==◌, List, codes}
+use Rattle.volume_layout.specs.Paths.{IsBlockId, is_stamp, block_name, meta_name, own_dir, block_path, meta_path, rbw_block, rbw_meta, tmp_block, tmp_meta}
+use Rattle.volume_layout.specs.Aside.{is_aside}
 use Rattle.volume_layout.specs.declared.block_file.BlockFile.{BlockFile}
 use Rattle.volume_layout.specs.declared.block_file.BlockFile.TheVariants.{Block, Meta, WritingBlock, WritingMeta, TemporaryBlock, TemporaryMeta}
 
@@ -58,3 +59,12 @@ same_file (WritingMeta stamp) (WritingMeta other) = stamp == other
 same_file TemporaryBlock TemporaryBlock = true
 same_file (TemporaryMeta stamp) (TemporaryMeta other) = stamp == other
 same_file file other = false
+
+-- different files of blocks have different paths
+abbrev pub PathsApart : Type 0
+PathsApart = (id other_id : ℕ) (file other : BlockFile) → IsBlockId id → IsBlockId other_id → IsTrue (is_file file) → IsTrue (is_file other) →
+    path_of id file ≡ path_of other_id other → (id ≡ other_id) × (file ≡ other)
+
+-- the files under `tmp` and `current/rbw` are those that aren't finalised
+abbrev pub FilesAside : Type 0
+FilesAside = (id : ℕ) (file : BlockFile) → is_aside (path_of id file) ≡ is_aside_file file

@@ -12,8 +12,8 @@ pub use block_file::BlockFile;
 pub use ids::{BlockId, Stamp};
 pub use names::{Named, names_have_one_reading, read_name};
 pub use paths::{
-    PathText, RBW_DIR, TMP_DIR, block_path, dir_path, meta_path, paths_are_apart, rbw_block,
-    rbw_meta, tmp_block, tmp_meta, unfinished_files_are_aside,
+    PathText, RBW_DIR, TMP_DIR, block_path, dir_path, meta_path, other_files_are_foreign,
+    paths_are_apart, rbw_block, rbw_meta, tmp_block, tmp_meta, unfinished_files_are_aside,
 };
 pub use place::{Place, START, place_of, places_are_apart, start_is_first};
 

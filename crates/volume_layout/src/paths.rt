@@ -3,7 +3,8 @@ ghost use Rattle.std.specs.Prelude.{◌≡◌, ◌+◌, ◌≤◌, ◌++◌, len
 ghost use Rattle.arrayvec.specs.ArrayString.{array_string_len};
 ghost use Rattle.volume_layout.specs.Paths as paths;
 ghost use Rattle.volume_layout.specs.Names.{path_text};
-ghost use Rattle.volume_layout.specs.PoolFiles.{PathsApart, FilesAside};
+ghost use Rattle.volume_layout.specs.BlockFiles.{PathsApart, FilesAside};
+ghost use Rattle.volume_layout.specs.Foreign.{ElsewhereIsForeign, OtherNamesAreForeign, StraysAreForeign};
 
 use crate::ids::{BlockId, Stamp};
 use crate::place::place_of;
@@ -174,7 +175,7 @@ pub fn tmp_meta(id: BlockId, stamp: Stamp) -> PathText
     PathText { text }
 }
 
-/// Different files of a pool have different paths.
+/// Different files of blocks have different paths.
 pub fn paths_are_apart()
     ensures { PathsApart }
 {}
@@ -182,4 +183,12 @@ pub fn paths_are_apart()
 /// The files of writers and of moves stand under `current/rbw` and `tmp`, and finalised files don't.
 pub fn unfinished_files_are_aside()
     ensures { FilesAside }
+{}
+
+/// Foreign is what stands where no files of blocks are, what has another name there than a block's files have, and a block's
+/// file in another directory of finalised files than its own.
+pub fn other_files_are_foreign()
+    ensures elsewhere { ElsewhereIsForeign }
+    ensures names { OtherNamesAreForeign }
+    ensures strays { StraysAreForeign }
 {}

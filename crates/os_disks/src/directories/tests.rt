@@ -143,6 +143,38 @@ fn calls_that_fail_are_counted(rt: HostRuntime) -> Result<(), Fail> {
     Ok(())
 }
 
+#[test]
+fn listed_sizes_stand_until_a_change(rt: HostRuntime) -> Result<(), Fail> {
+    let alloc = rt.alloc();
+    let _absent = fs::remove_dir_all(&rt, "disks_of_sizes");
+    let mut disks = open_disks(&rt, &["disks_of_sizes/v1"])?;
+    for (name, bytes) in [("blk_7", "seven"), ("blk_70", ""), ("blk_8", "8")] {
+        write_file(
+            alloc,
+            &mut disks,
+            "tmp/draft",
+            format!(in alloc; "tmp/{name}")?.as_str(),
+            bytes.as_bytes(),
+        )?;
+    }
+    assert_eq!(rt; disks.list(alloc, 1, "tmp")?.len(), 3);
+
+    // a change that breaks the rule of the locks shows what comes from the listing, and what is asked
+    let real = "disks_of_sizes/v1/current/bp1/tmp";
+    fs::rename(&rt, real, "disks_of_sizes/aside")?;
+    assert_eq!(rt; disks.size(1, "tmp/blk_7"), Ok(Some(5)));
+    assert_eq!(rt; disks.size(1, "tmp/blk_70"), Ok(Some(0)));
+    assert_eq!(rt; disks.size(1, "tmp/blk_8"), Ok(Some(1)));
+    assert_eq!(rt; disks.absences, 0);
+    assert_eq!(rt; disks.size(1, "tmp/blk_"), Ok(None));
+    assert_eq!(rt; disks.size(1, "tmp/blk_9"), Ok(None));
+    assert_eq!(rt; disks.absences, 2);
+    disks.remove(1, "current/rbw/blk_1")?;
+    assert_eq!(rt; disks.size(1, "tmp/blk_7"), Ok(None));
+    fs::remove_dir_all(&rt, "disks_of_sizes")?;
+    Ok(())
+}
+
 /// Which calls fail in a directory: its listing, and of a name in it the size, a reader, a creation, a publish and a
 /// removal.
 fn failed_calls(alloc: Global, disks: &mut OsDisks, dir: &str) -> Result<[bool; 6], AllocError>

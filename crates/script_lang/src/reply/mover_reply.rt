@@ -3,7 +3,7 @@ ghost use Rattle.std.specs.Prelude.{◌≡◌, [], ◌∷◌, ◌++◌, IfOk, So
 ghost use Rattle.script_lang.specs.MoverReply.{mover_reply_text};
 
 use crate::reply::skip::Skip;
-use crate::reply::verdict::Verdict;
+use meta_file::Verdict;
 use std::alloc::{AllocError, Global};
 use std::fmt;
 

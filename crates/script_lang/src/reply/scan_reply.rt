@@ -4,7 +4,7 @@ ghost use Rattle.script_lang.specs.ScanReply.{scan_reply_text};
 
 use crate::reply::cursor_member::CursorMember;
 use crate::reply::kept::Kept;
-use crate::reply::verdict::Verdict;
+use meta_file::Verdict;
 use std::alloc::{AllocError, Global};
 use std::fmt;
 

@@ -4,6 +4,7 @@ ghost use Rattle.std.specs.Prelude.{◌≡◌};
 use super::printing::is_printed;
 use crate::bytes::Bytes;
 use crate::reply::Reply;
+use meta_file::{MetaFault, Verdict};
 use std::alloc::Global;
 use std::process::Abort;
 use std::test::Fail;
@@ -34,32 +35,43 @@ fn refusal(n: usize) -> (Reply, &'static str) {
     }
 }
 
+// The reply on a header with a fault.
+fn bad_header(fault: MetaFault) -> Reply {
+    Reply::Bad(Verdict::Meta(fault))
+}
+
 // What a check of a block found, and its text.
 fn verdict(n: usize) -> (Reply, &'static str) {
     match n {
-        0 => (Reply::Short { want: 5, have: 3 }, "short 5 3\n"),
+        0 => (
+            Reply::Bad(Verdict::Short { want: 5, have: 3 }),
+            "short 5 3\n",
+        ),
         1 => (
-            Reply::BadChunk {
+            Reply::Bad(Verdict::BadChunk {
                 chunk: 0,
                 stored: 4_294_967_295,
                 computed: 3_808_858_755,
-            },
+            }),
             "badchunk 0 4294967295 3808858755\n",
         ),
         2 => (
-            Reply::Count {
+            Reply::Bad(Verdict::Count {
                 want: 340_282_366_920_938_463_463_374_607_431_768_211_455,
                 have: 4,
-            },
+            }),
             "count 340282366920938463463374607431768211455 4\n",
         ),
-        3 => (Reply::BadMetaShort { have: 6 }, "badmeta short 6\n"),
+        3 => (
+            bad_header(MetaFault::Short { have: 6 }),
+            "badmeta short 6\n",
+        ),
         4 => (
-            Reply::BadMetaVersion { v: 65_535 },
+            bad_header(MetaFault::Version { v: 65_535 }),
             "badmeta version 65535\n",
         ),
-        5 => (Reply::BadMetaType { t: 255 }, "badmeta type 255\n"),
-        _ => (Reply::BadMetaStep { n: 0 }, "badmeta step 0\n"),
+        5 => (bad_header(MetaFault::Kind { t: 255 }), "badmeta type 255\n"),
+        _ => (bad_header(MetaFault::Step { n: 0 }), "badmeta step 0\n"),
     }
 }
 

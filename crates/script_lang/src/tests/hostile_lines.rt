@@ -2,7 +2,7 @@
 ghost use Rattle.std.specs.Prelude.{◌≡◌};
 
 use super::columns::column;
-use crate::{Line, read_line};
+use crate::{ClientLine, Line, read_line};
 use std::alloc::{AllocError, Global};
 use std::process::Abort;
 use std::test::Fail;
@@ -89,7 +89,7 @@ fn long_lines(rt: HostRuntime) {
 // Whether a line pushes so many bytes, each of them 0xaa, to block 5.
 fn pushes(line: &Line, count: usize) -> bool {
     match line {
-        Line::Push { id, hex } => {
+        Line::Client(ClientLine::Push { id, hex }) => {
             id.get() == 5 && hex.len() == count && hex.as_slice().iter().all(|b| *b == 0xaa)
         }
         _ => false,

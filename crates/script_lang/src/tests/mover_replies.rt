@@ -5,7 +5,7 @@ use super::printing::is_printed;
 use crate::reply::Reply;
 use crate::reply::mover_reply::MoverReply;
 use crate::reply::skip::Skip;
-use crate::reply::verdict::Verdict;
+use meta_file::{MetaFault, Verdict};
 use std::alloc::Global;
 use std::process::Abort;
 use std::test::Fail;
@@ -47,7 +47,7 @@ fn carried_out(n: usize) -> (MoverReply, &'static str) {
         1 => (
             MoverReply::Bad {
                 id: 5,
-                verdict: Verdict::BadMetaShort { have: 0 },
+                verdict: Verdict::Meta(MetaFault::Short { have: 0 }),
             },
             "mover bad 5 badmeta short 0\n",
         ),

@@ -1,5 +1,5 @@
 //! Lines as tests see them: their words again, without knowing which line it is.
-use crate::{Line, ServeLine};
+use crate::{BalancerLine, ClientLine, Line, MoveLine, NodeLine, ScanLine, ServeLine};
 use std::alloc::{AllocError, Global};
 
 /// What a line says, in the order in which its words are written. A word that it hasn't is `None`.
@@ -108,23 +108,25 @@ fn append_digits(alloc: Global, line: &mut String, bytes: &[u8]) -> Result<(), A
 fn said_of_node(line: &Line) -> Said<'_> {
     match line {
         Line::Blank => Said::verb("blank"),
-        Line::At { ms } => Said::one("at", *ms),
-        Line::Use { pool } => Said::verb("use").with_name(pool.as_str()),
-        Line::Reopen => Said::verb("reopen"),
-        Line::Report => Said::verb("report"),
-        Line::Fill { count, seed } => Said::two("fill", *count, *seed),
-        Line::Balance { t } => Said::one("balance", u64::from(*t)),
-        Line::Execute {
-            id,
-            version,
-            force,
-            json,
-        } => Said::two("execute", *version, u64::from(*force))
+        Line::Node(NodeLine::At { ms }) => Said::one("at", *ms),
+        Line::Node(NodeLine::Use { pool }) => Said::verb("use").with_name(pool.as_str()),
+        Line::Node(NodeLine::Reopen) => Said::verb("reopen"),
+        Line::Node(NodeLine::Report) => Said::verb("report"),
+        Line::Node(NodeLine::Fill { count, seed }) => Said::two("fill", *count, *seed),
+        Line::Balancer(BalancerLine::Balance { t }) => Said::one("balance", u64::from(*t)),
+        Line::Balancer(
+            BalancerLine::Execute {
+                id,
+                version,
+                force,
+                json,
+            },
+        ) => Said::two("execute", *version, u64::from(*force))
             .with_name(id.as_str())
             .with_bytes(json.as_slice()),
-        Line::Query => Said::verb("query"),
-        Line::Cancel { id } => Said::verb("cancel").with_name(id.as_str()),
-        Line::Mover => Said::verb("mover"),
+        Line::Balancer(BalancerLine::Query) => Said::verb("query"),
+        Line::Balancer(BalancerLine::Cancel { id }) => Said::verb("cancel").with_name(id.as_str()),
+        Line::Balancer(BalancerLine::Mover) => Said::verb("mover"),
         _ => Said::verb("another"),
     }
 }
@@ -132,19 +134,31 @@ fn said_of_node(line: &Line) -> Said<'_> {
 // What a line of a client says.
 fn said_of_client(line: &Line) -> Said<'_> {
     match line {
-        Line::Open { id, stamp, need } => Said::three("open", id.get(), stamp.get(), *need),
-        Line::Grow { id, stamp, more } => Said::three("grow", id.get(), stamp.get(), *more),
-        Line::Push { id, hex } => Said::one("push", id.get()).with_bytes(hex.as_slice()),
-        Line::Finish { id } => Said::one("finish", id.get()),
-        Line::Drop { id } => Said::one("drop", id.get()),
-        Line::Write { id, stamp, hex } => {
+        Line::Client(ClientLine::Open { id, stamp, need }) => Said::three(
+            "open",
+            id.get(),
+            stamp.get(),
+            *need,
+        ),
+        Line::Client(ClientLine::Grow { id, stamp, more }) => Said::three(
+            "grow",
+            id.get(),
+            stamp.get(),
+            *more,
+        ),
+        Line::Client(ClientLine::Push { id, hex }) => Said::one("push", id.get()).with_bytes(
+            hex.as_slice(),
+        ),
+        Line::Client(ClientLine::Finish { id }) => Said::one("finish", id.get()),
+        Line::Client(ClientLine::Drop { id }) => Said::one("drop", id.get()),
+        Line::Client(ClientLine::Write { id, stamp, hex }) => {
             Said::two("write", id.get(), stamp.get()).with_bytes(hex.as_slice())
         }
-        Line::Append { id, stamp, hex } => {
+        Line::Client(ClientLine::Append { id, stamp, hex }) => {
             Said::two("append", id.get(), stamp.get()).with_bytes(hex.as_slice())
         }
-        Line::Read { id } => Said::one("read", id.get()),
-        Line::Delete { id } => Said::one("delete", id.get()),
+        Line::Client(ClientLine::Read { id }) => Said::one("read", id.get()),
+        Line::Client(ClientLine::Delete { id }) => Said::one("delete", id.get()),
         _ => said_of_node(line),
     }
 }
@@ -152,16 +166,16 @@ fn said_of_client(line: &Line) -> Said<'_> {
 // What a line about scanners says.
 fn said_of_scan(line: &Line) -> Said<'_> {
     match line {
-        Line::Dirlist { vol, d1, d2 } => {
+        Line::Scan(ScanLine::DirList { vol, d1, d2 }) => {
             Said::three("dirlist", u64::from(*vol), u64::from(*d1), u64::from(*d2))
         }
-        Line::Dirdiff => Said::verb("dirdiff"),
-        Line::Dirfix => Said::verb("dirfix"),
-        Line::Volload { vol } => Said::one("volload", u64::from(*vol)),
-        Line::Volnext { vol } => Said::one("volnext", u64::from(*vol)),
-        Line::Volcheck { vol } => Said::one("volcheck", u64::from(*vol)),
-        Line::Volreport { vol } => Said::one("volreport", u64::from(*vol)),
-        Line::Cursor { vol } => Said::one("cursor", u64::from(*vol)),
+        Line::Scan(ScanLine::DirDiff) => Said::verb("dirdiff"),
+        Line::Scan(ScanLine::DirFix) => Said::verb("dirfix"),
+        Line::Scan(ScanLine::VolLoad { vol }) => Said::one("volload", u64::from(*vol)),
+        Line::Scan(ScanLine::VolNext { vol }) => Said::one("volnext", u64::from(*vol)),
+        Line::Scan(ScanLine::VolCheck { vol }) => Said::one("volcheck", u64::from(*vol)),
+        Line::Scan(ScanLine::VolReport { vol }) => Said::one("volreport", u64::from(*vol)),
+        Line::Scan(ScanLine::Cursor { vol }) => Said::one("cursor", u64::from(*vol)),
         _ => said_of_client(line),
     }
 }
@@ -169,12 +183,12 @@ fn said_of_scan(line: &Line) -> Said<'_> {
 /// What a line says.
 pub fn said_by(line: &Line) -> Said<'_> {
     match line {
-        Line::Mbegin { id, vol } => Said::two("mbegin", id.get(), u64::from(*vol)),
-        Line::Mcopy { id, n } => Said::two("mcopy", id.get(), *n),
-        Line::Mseal { id } => Said::one("mseal", id.get()),
-        Line::Mpublish { id } => Said::one("mpublish", id.get()),
-        Line::Mdrop { id } => Said::one("mdrop", id.get()),
-        Line::Sweep => Said::verb("sweep"),
+        Line::Move(MoveLine::Begin { id, vol }) => Said::two("mbegin", id.get(), u64::from(*vol)),
+        Line::Move(MoveLine::Copy { id, n }) => Said::two("mcopy", id.get(), *n),
+        Line::Move(MoveLine::Seal { id }) => Said::one("mseal", id.get()),
+        Line::Move(MoveLine::Publish { id }) => Said::one("mpublish", id.get()),
+        Line::Move(MoveLine::Drop { id }) => Said::one("mdrop", id.get()),
+        Line::Move(MoveLine::Sweep) => Said::verb("sweep"),
         _ => said_of_scan(line),
     }
 }

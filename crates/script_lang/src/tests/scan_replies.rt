@@ -6,7 +6,7 @@ use crate::reply::Reply;
 use crate::reply::cursor_member::CursorMember;
 use crate::reply::kept::Kept;
 use crate::reply::scan_reply::ScanReply;
-use crate::reply::verdict::Verdict;
+use meta_file::{MetaFault, Verdict};
 use std::alloc::Global;
 use std::process::Abort;
 use std::test::Fail;
@@ -86,15 +86,21 @@ fn verdict(n: usize) -> (Verdict, &'static str) {
         2 => (Verdict::Count { want: 8, have: 4 }, "verdict count 8 4\n"),
         3 => (Verdict::Short { want: 5, have: 3 }, "verdict short 5 3\n"),
         4 => (
-            Verdict::BadMetaShort { have: 6 },
+            Verdict::Meta(MetaFault::Short { have: 6 }),
             "verdict badmeta short 6\n",
         ),
         5 => (
-            Verdict::BadMetaVersion { v: 2 },
+            Verdict::Meta(MetaFault::Version { v: 2 }),
             "verdict badmeta version 2\n",
         ),
-        6 => (Verdict::BadMetaType { t: 3 }, "verdict badmeta type 3\n"),
-        _ => (Verdict::BadMetaStep { n: 0 }, "verdict badmeta step 0\n"),
+        6 => (
+            Verdict::Meta(MetaFault::Kind { t: 3 }),
+            "verdict badmeta type 3\n",
+        ),
+        _ => (
+            Verdict::Meta(MetaFault::Step { n: 0 }),
+            "verdict badmeta step 0\n",
+        ),
     }
 }
 

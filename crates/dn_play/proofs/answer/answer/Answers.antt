@@ -1,4 +1,4 @@
-use Rattle.std.proofs.Common.{ap, ◌∙◌, sym, subst, refl, Ok, Err}
+use Rattle.std.proofs.Common.{ap, ◌∙◌, sym, subst, Ok, Err}
 use Rattle.script_lang.specs.declared.LineFault.TheVariants.{Bad}
 use Rattle.std.specs.Io.KnownBytes.{Appends}
 use Rattle.line_io.specs.Written.{AppendsFront}

@@ -1,4 +1,4 @@
-use Rattle.std.proofs.Common.{ap, sym, ◌∙◌, subst, Ok, Err, arith}
+use Rattle.std.proofs.Common.{ap, sym, subst, Ok, Err, arith}
 use Rattle.run_end.specs.declared.ending.Ending.{Ending}
 use Rattle.run_end.specs.Ending.{IsOfReading}
 use Rattle.dn_play.specs.Answer.{Played}
@@ -9,6 +9,7 @@ use Rattle.run_session.proofs.Stepping.{rose_from}
 use Rattle.dn_play.proofs.Progress.{starts, goes_on_by, played_nothing, played_complete, played_fault, played_unanswered, played_less, ends_lines, answered_complete, answered_source}
 use Rattle.dn_play.proofs.Crashes.{now_safe, leaves_safe}
 use Rattle.disk_model.proofs.GoingOn.{went_same, went_then}
+use Rattle.pool_state.proofs.Foreign.{foreign_same, foreign_then}
 use Rattle.dn_play.proofs.lines.play_lines.Goals as goal
 
 pub returns-in_default-clause-played : goal.returns-in_default-clause-played
@@ -20,6 +21,7 @@ pub lines-init : goal.lines-init
 lines-init g c = let none_yet = c.new-reader.ensures.count in record {
   progress = λ state standing. starts standing (now_safe standing.pool (g.met.D.PoolDisks.only_now c.args.session.now.pool.disks)) _ _ _ _ c.new-reader.ensures.nothing c.new-reader.ensures.count;
   went_on = went_same _ _;
+  foreign = foreign_same _ _;
   counted = omega arith;
   in_limit = omega arith;
   later_source = omega arith;
@@ -50,9 +52,6 @@ returns-in-Err-clause-source g c = λ e. rose_from _ (g.S.Source.faults c.lines.
 pub returns-in-Err-clause-sink : goal.returns-in-Err-clause-sink
 returns-in-Err-clause-sink g c = λ e. absurd (subst IsOfReading e c.of_read.ensures.reading)
 
-pub returns-in-Err-clause-two_metas : goal.returns-in-Err-clause-two_metas
-returns-in-Err-clause-two_metas g c = λ e. absurd (subst IsOfReading e c.of_read.ensures.reading)
-
 pub returns-then-not-found-clause-played : goal.returns-then-not-found-clause-played
 returns-then-not-found-clause-played g c state standing =
     played_less {StandsFor = SessionStands c.lines.session}
@@ -73,11 +72,11 @@ returns-in-Err-answer-clause-played g c state standing =
     (g.D.PoolDisks.worlds c.lines.session.pool.disks) c.lines.invariant.went_on.honest.0 (g.S.Source.left c.next_line.new.source) c.next_line.new.self.bytes c.next_line.new.self.count _ c.next_line.new.line.items c.deref.result.now c.deref.ensures.value
     (c.in-Ok-next_line.ensures.line (ap Ok c.if-not-found.false)) _ (c.in-Err-answer.ensures.err _ p.stands)
 
-pub returns-in-Err-answer-clause-two_metas : goal.returns-in-Err-answer-clause-two_metas
-returns-in-Err-answer-clause-two_metas g c = λ e. c.in-Err-answer.ensures.two_metas (ap Err e)
-
 pub returns-in-Err-answer-clause-goes_on : goal.returns-in-Err-answer-clause-goes_on
 returns-in-Err-answer-clause-goes_on g c = went_then _ _ _ _ c.lines.invariant.went_on c.in-Err-answer.ensures.goes_on
+
+pub returns-in-Err-answer-clause-foreign : goal.returns-in-Err-answer-clause-foreign
+returns-in-Err-answer-clause-foreign g c = foreign_then c.lines.invariant.foreign c.in-Err-answer.ensures.foreign
 
 pub returns-in-Err-answer-clause-at_end : goal.returns-in-Err-answer-clause-at_end
 returns-in-Err-answer-clause-at_end g c =
@@ -105,6 +104,7 @@ lines-preserved g c =
           (g.D.PoolDisks.worlds c.lines.session.pool.disks) c.lines.invariant.went_on.honest.0 (g.S.Source.left c.next_line.new.source) c.next_line.new.self.bytes c.next_line.new.self.count _ c.next_line.new.line.items c.deref.result.now c.deref.ensures.value
           (c.in-Ok-next_line.ensures.line (ap Ok c.if-not-found.false)) (c.in-Ok-answer.ensures.ok _ p.stands);
       went_on = went_then _ _ _ _ c.lines.invariant.went_on c.in-Ok-answer.ensures.goes_on;
+      foreign = foreign_then c.lines.invariant.foreign c.in-Ok-answer.ensures.foreign;
       counted = (let n = c.lines.invariant.counted in omega (arith, a, n));
       in_limit = b;
       later_source = omega (arith, c.lines.invariant.later_source, c.in-Ok-next_line.ensures.later);

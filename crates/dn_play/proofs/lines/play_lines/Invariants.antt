@@ -1,6 +1,7 @@
 use Rattle.std.proofs.Common.{◌≤◌, ◌-◌}
 use Rattle.line_io.specs.declared.TheConstants.{INPUT_LIMIT}
 use Rattle.disk_model.specs.Marks.{GoesOn, faulty_of, mark_of}
+use Rattle.pool_state.specs.Foreign.{LeavesForeign}
 use Rattle.run_model.specs.State.{RunState}
 use Rattle.run_session.specs.Standing.{SessionStands, SoundFor}
 use Rattle.dn_play.proofs.Progress.{Progress}
@@ -16,6 +17,7 @@ invariant-lines g l = record {
       (SoundFor l.fn.session) (SoundFor l.session)
       (g.D.PoolDisks.left_since l.fn.session.pool.disks) (g.D.PoolDisks.left_since l.session.pool.disks);
   went_on : GoesOn g.D.PoolDisks l.fn.session.pool.disks l.session.pool.disks;
+  foreign : LeavesForeign g.D.PoolDisks l.fn.session.pool.disks l.session.pool.disks;
   counted : l.number ≤ l.reader.count;
   in_limit : l.reader.count ≤ INPUT_LIMIT;
   later_source : g.S.Source.faults l.fn.source ≤ g.S.Source.faults l.source;

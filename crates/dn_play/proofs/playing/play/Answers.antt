@@ -7,6 +7,7 @@ use Rattle.dn_play.specs.Play.{RunsOver}
 use Rattle.dn_play.proofs.LastLine.{run_of, not_usage, opening_failed, rose_in, stops_at}
 use Rattle.dn_play.proofs.Judging.{judged_memory, judged_usage, judged_later, never_judged, run_without, memory_stops}
 use Rattle.dn_play.proofs.OneDisk.{one_disk, one_disk_lent, in_place, volumes_stay, some_disk, holds_of_only, judged_items}
+use Rattle.dn_play.proofs.Foreign.{keeps_foreign, keeps_same}
 use Rattle.dn_play.proofs.playing.play.Goals as goal
 
 pub returns-in-Err-clause-refused : goal.returns-in-Err-clause-refused
@@ -29,6 +30,11 @@ returns-in-Err-clause-run g c = λ fits one.
       one_after = only.only;
       holds = run_without _ _ _ _ _ _ _ _ c.in-Err.ending _ (judged_memory _ _ c.in-Err.ending (judged_items g.D.PoolDisks.volume_count (map string_bytes c.args.words.now) (Some c.in-Err.ending) _ _ c.as_slice.ensures.value c.in-Err.ensures.judged) fits one) (g.met.D.PoolDisks.only_now only.disk) c.close.ensures.declines;
     }
+
+pub returns-in-Err-clause-foreign : goal.returns-in-Err-clause-foreign
+returns-in-Err-clause-foreign g c = λ fits one.
+    let only = one_disk g.D.PoolDisks.volume_count _ _ fits one in
+    record { before = only.disk; after = only.disk; one_before = only.only; one_after = only.only; holds = keeps_same g.D.PoolDisks g.met.D.PoolDisks.only_now only.disk }
 
 pub returns-in-Err-clause-at_end : goal.returns-in-Err-clause-at_end
 returns-in-Err-clause-at_end g c = λ e. absurd (never_judged _ _ c.in-Err.ending Complete c.in-Err.ensures.judged (c.close.ensures.completed e))
@@ -96,6 +102,18 @@ returns-clause-run g c = λ fits one.
       holds = subst (λ (shares : List ℕ). RunsOver g.D.PoolDisks g.D.Draft.Draft g.D.Reader.Reader shares (g.S.Source.left c.args.source.now) (g.K.Sink.taken c.args.sink.now) (g.K.Sink.taken c.close-status.new.sink)
           c.close-status.result c.in-Some.disk c.play_pool-run.result.disks) c.in-Ok.ensures.shares
           (run_of _ _ _ _ _ (g.K.Sink.taken c.play_pool-run.new.sink) _ _ _ c.play_pool-run.ensures.runs (c.close-status.ensures.closed _ _ c.play_pool-run.ensures.runs.written));
+    }
+
+pub returns-clause-foreign : goal.returns-clause-foreign
+returns-clause-foreign g c = λ fits one.
+    let only = one_disk g.D.PoolDisks.volume_count _ _ fits one in
+    let p = in_place g.D.PoolDisks.volume_count _ _ _ _ c.play_pool-run.result.disks only c.in-Some.ensures.items c.in-Ok-push.ensures.items in
+    record {
+      before = c.in-Some.disk;
+      after = c.play_pool-run.result.disks;
+      one_before = p.0;
+      one_after = p.1;
+      holds = keeps_foreign g.D.PoolDisks g.met.D.PoolDisks.only_now c.in-Some.disk c.play_pool-run.result.disks c.play_pool-run.ensures.foreign;
     }
 
 pub returns-clause-at_end : goal.returns-clause-at_end

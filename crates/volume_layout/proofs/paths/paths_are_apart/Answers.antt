@@ -1,4 +1,4 @@
-use Rattle.volume_layout.proofs.PoolFileProofs.{paths_are_apart}
+use Rattle.volume_layout.proofs.BlockFileProofs.{paths_are_apart}
 use Rattle.volume_layout.proofs.paths.paths_are_apart.Goals as goal
 
 pub returns : goal.returns

@@ -1,4 +1,4 @@
-use Rattle.volume_layout.proofs.PoolFileProofs.{files_aside}
+use Rattle.volume_layout.proofs.BlockFileProofs.{files_aside}
 use Rattle.volume_layout.proofs.paths.unfinished_files_are_aside.Goals as goal
 
 pub returns : goal.returns

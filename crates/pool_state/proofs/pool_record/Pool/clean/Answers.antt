@@ -3,6 +3,7 @@ use Rattle.std.specs.Prelude.{drop}
 use Rattle.std.proofs.lemmas.List.{drop-drop}
 use Rattle.disk_model.proofs.GoingOn.{went_then}
 use Rattle.pool_state.specs.Books.{left_at}
+use Rattle.pool_state.proofs.Foreign.{foreign_then}
 use Rattle.pool_state.proofs.QuietRemovals.{both_quiet}
 use Rattle.pool_state.proofs.pool_record.Pool.clean.Goals as goal
 
@@ -29,8 +30,15 @@ loop-preserved g c = record {
   others = λ other apart. c.clean_one.ensures.others other apart ∙ c.loop.invariant.others other apart;
   choosing = c.clean_one.ensures.choosing ∙ c.loop.invariant.choosing;
   goes_on = went_then _ _ _ _ c.loop.invariant.goes_on c.clean_one.ensures.goes_on;
+  foreign = foreign_then c.loop.invariant.foreign c.clean_one.ensures.foreign;
 }
 
 pub returns-in_err-clean_one-clause-front : goal.returns-in_err-clean_one-clause-front
 returns-in_err-clean_one-clause-front g c =
     (c.loop.invariant.front.0, ap (λ m. left_at m c.args.id) c.in_err-clean_one.ensures.kept ∙ c.loop.invariant.front.1)
+
+pub returns-in_err-clean_one-clause-foreign : goal.returns-in_err-clean_one-clause-foreign
+returns-in_err-clean_one-clause-foreign g c = foreign_then c.loop.invariant.foreign c.clean_one.ensures.foreign
+
+pub returns-in_err-clean_one-clause-goes_on : goal.returns-in_err-clean_one-clause-goes_on
+returns-in_err-clean_one-clause-goes_on g c = went_then _ _ _ _ c.loop.invariant.goes_on c.clean_one.ensures.goes_on

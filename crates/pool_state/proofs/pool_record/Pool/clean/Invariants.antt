@@ -4,6 +4,7 @@ use Rattle.map_model.specs.Sound.{nothing}
 use Rattle.replica_map.specs.Books.{SameRows}
 use Rattle.pool_state.specs.Books.{block_books, left_at}
 use Rattle.disk_model.specs.Marks.{GoesOn}
+use Rattle.pool_state.specs.Foreign.{LeavesForeign}
 use Rattle.pool_state.specs.Stands.{Stands, StandsForSome}
 use Rattle.pool_state.specs.Tenures.{Rests, KeepsWhole, ChoosesAsBefore}
 use Rattle.pool_state.proofs.pool_record.Pool.clean.Given as goal
@@ -20,4 +21,5 @@ invariant-loop g l = record {
   others : (other : ℕ) → other ≢ l.id → block_books l.self.map other ≡ block_books l.fn.self.map other;
   choosing : ChoosesAsBefore l.fn.self l.self;
   goes_on : GoesOn g.D.PoolDisks l.fn.self.disks l.self.disks;
+  foreign : LeavesForeign g.D.PoolDisks l.fn.self.disks l.self.disks;
 }

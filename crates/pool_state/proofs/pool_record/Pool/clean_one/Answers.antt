@@ -2,6 +2,7 @@ use Rattle.std.proofs.Common.{refl, sym, ◌∙◌, option_map}
 use Rattle.replica_map.specs.Books.{entry_at, grown_at}
 use Rattle.pool_state.specs.Books.{book_entry, book_leftover}
 use Rattle.pool_state.proofs.Changing.{unchanged, others_stay}
+use Rattle.pool_state.proofs.Foreign.{foreign_removed}
 use Rattle.pool_state.proofs.Listing.{listed, rest, within, one_fewer, dropped, first_gone}
 use Rattle.pool_state.proofs.Reaching.{reaches_removed_at, reaches_remove_at}
 use Rattle.pool_state.proofs.Showing.{begins, calls, rests}
@@ -66,3 +67,9 @@ returns-clause-quiet g c cells stands =
 
 pub returns-clause-front : goal.returns-clause-front
 returns-clause-front g c = first_gone c.args.id c.args.at c.args.self.now.map c.requires.first c.drop_leftover.new.self c.drop_leftover.ensures.rows c.drop_leftover.ensures.leftovers
+
+pub returns-in_err-remove-clause-foreign : goal.returns-in_err-remove-clause-foreign
+returns-in_err-remove-clause-foreign g c = foreign_removed c.args.id c.in-Some.leftover.vol c.in-Some.leftover.file c.requires.valid c.path.ensures.valid _ (c.as_str.ensures ∙ c.path.ensures.text) c.remove.ensures.worlds c.remove.ensures.time
+
+pub returns-clause-foreign : goal.returns-clause-foreign
+returns-clause-foreign g c = foreign_removed c.args.id c.in-Some.leftover.vol c.in-Some.leftover.file c.requires.valid c.path.ensures.valid _ (c.as_str.ensures ∙ c.path.ensures.text) c.remove.ensures.worlds c.remove.ensures.time

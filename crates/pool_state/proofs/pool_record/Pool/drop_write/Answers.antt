@@ -15,6 +15,7 @@ use Rattle.pool_state.specs.Reaching.{Then}
 use Rattle.pool_state.proofs.Reaching.{reaches_then, reaches_removed_at, reaches_remove_at}
 use Rattle.pool_state.proofs.Changing.{pool_stands}
 use Rattle.pool_state.proofs.Entries.{with_entry, become, become_alone, writer_in, is_written_entry, written_here, calm_left, not_unwritten, entry_on, settled}
+use Rattle.pool_state.proofs.Foreign.{foreign_removed, foreign_then}
 use Rattle.pool_state.proofs.Showing.{begins, calls, shown, takes, passes_end}
 use Rattle.pool_state.proofs.Ends.{drop_step, writer_placed, dropping_passes, given_up, dropped_leads}
 use Rattle.pool_state.proofs.pool_record.Pool.drop_write.Goals as goal
@@ -162,3 +163,17 @@ returns-clause-books g c =
     let has = sym c.find.ensures.value ∙ c.in-Some.is in
     become_alone map c.take_away.new.map (λ l. books_with None None l) c.in-Some.ensures.own c.take_away.ensures.books
     (calm_left map id (c.requires.stands.1.fit id c.find.ensures.valid) e has Writing (is_written_entry map id e has c.requires.writes) tt)
+
+pub returns-in-Err-clause-foreign : goal.returns-in-Err-clause-foreign
+returns-in-Err-clause-foreign g c =
+    foreign_removed c.args.writer.id c.in-Some.entry.vol WritingBlock c.find.ensures.valid refl _ (c.as_str.ensures ∙ c.rbw_block.ensures) c.in-Err.ensures.worlds c.in-Err.ensures.time
+
+pub returns-in-Err-remove-clause-foreign : goal.returns-in-Err-remove-clause-foreign
+returns-in-Err-remove-clause-foreign g c = foreign_then
+    (foreign_removed c.args.writer.id c.in-Some.entry.vol WritingBlock c.find.ensures.valid refl _ (c.as_str.ensures ∙ c.rbw_block.ensures) c.in-Ok.ensures.worlds c.in-Ok.ensures.time)
+    (foreign_removed c.args.writer.id c.in-Some.entry.vol (WritingMeta c.in-Some.entry.stamp) c.find.ensures.valid (is_stamp-IsStamp c.in-Some.entry.stamp c.get-in_range.ensures.in_range) _ (c.as_str-2.ensures ∙ c.rbw_meta.ensures) c.in-Err-remove.ensures.worlds c.in-Err-remove.ensures.time)
+
+pub returns-clause-foreign : goal.returns-clause-foreign
+returns-clause-foreign g c = foreign_then
+    (foreign_removed c.args.writer.id c.in-Some.entry.vol WritingBlock c.find.ensures.valid refl _ (c.as_str.ensures ∙ c.rbw_block.ensures) c.in-Ok.ensures.worlds c.in-Ok.ensures.time)
+    (foreign_removed c.args.writer.id c.in-Some.entry.vol (WritingMeta c.in-Some.entry.stamp) c.find.ensures.valid (is_stamp-IsStamp c.in-Some.entry.stamp c.get-in_range.ensures.in_range) _ (c.as_str-2.ensures ∙ c.rbw_meta.ensures) c.in-Ok-remove.ensures.worlds c.in-Ok-remove.ensures.time)

@@ -17,6 +17,7 @@ use Rattle.pool_state.specs.Books.{books_with}
 use Rattle.pool_state.specs.BookSteps.{in_state, with_replica}
 use Rattle.pool_state.proofs.Changing.{pool_stands, learns}
 use Rattle.pool_state.proofs.Entries.{with_entry, become, has_entry, same_writer, writer_left, settled, settled_as}
+use Rattle.pool_state.proofs.Foreign.{foreign_published, foreign_then}
 use Rattle.pool_state.proofs.Showing.{begins, calls, shown, takes_learning, passes_end}
 use Rattle.pool_state.proofs.Ends.{meta_fits, reaches_published_at, reaches_publish_at, same_told, finish_step, meta_stands, block_stands, new_passes, finish_doubts, finish_ends, writer}
 use Rattle.pool_state.proofs.pool_record.Pool.finish.Goals as goal
@@ -164,3 +165,28 @@ returns-clause-books g c =
     let e = c.in-Some.entry in
     become map c.put-2.new.map (λ l. books_with None (Some (record e { len = c.args.pair.len; state = Finalised })) l) c.in-Some.ensures.own c.put-2.ensures.books
     ∙ sym (ap (with_replica c.args.pair.len) (with_entry map c.args.pair.id e (sym c.find.ensures.value ∙ c.in-Some.is)))
+
+pub returns-in-Err-clause-foreign : goal.returns-in-Err-clause-foreign
+returns-in-Err-clause-foreign g c =
+    let p = c.args.pair in
+    let belongs = c.requires.belongs.1 in
+    foreign_published p.id (WritingMeta p.stamp) (Meta p.stamp) belongs.valid.0 (is_stamp-IsStamp p.stamp belongs.valid.1) (is_stamp-IsStamp p.stamp belongs.valid.1)
+    _ _ _ belongs.meta _ _ (c.as_str.ensures ∙ c.meta_path.ensures) c.in-Err.ensures.worlds c.in-Err.ensures.time
+
+pub returns-in-Err-publish-clause-foreign : goal.returns-in-Err-publish-clause-foreign
+returns-in-Err-publish-clause-foreign g c =
+    let p = c.args.pair in
+    let belongs = c.requires.belongs.1 in
+    foreign_then (foreign_published p.id (WritingMeta p.stamp) (Meta p.stamp) belongs.valid.0 (is_stamp-IsStamp p.stamp belongs.valid.1) (is_stamp-IsStamp p.stamp belongs.valid.1)
+    _ _ _ belongs.meta _ _ (c.as_str.ensures ∙ c.meta_path.ensures) c.in-Ok.ensures.worlds c.in-Ok.ensures.time)
+    (foreign_published p.id WritingBlock Block belongs.valid.0 refl refl
+    _ _ _ belongs.block _ _ (c.as_str-2.ensures ∙ c.block_path.ensures) c.in-Err-publish.ensures.worlds c.in-Err-publish.ensures.time)
+
+pub returns-clause-foreign : goal.returns-clause-foreign
+returns-clause-foreign g c =
+    let p = c.args.pair in
+    let belongs = c.requires.belongs.1 in
+    foreign_then (foreign_published p.id (WritingMeta p.stamp) (Meta p.stamp) belongs.valid.0 (is_stamp-IsStamp p.stamp belongs.valid.1) (is_stamp-IsStamp p.stamp belongs.valid.1)
+    _ _ _ belongs.meta _ _ (c.as_str.ensures ∙ c.meta_path.ensures) c.in-Ok.ensures.worlds c.in-Ok.ensures.time)
+    (foreign_published p.id WritingBlock Block belongs.valid.0 refl refl
+    _ _ _ belongs.block _ _ (c.as_str-2.ensures ∙ c.block_path.ensures) c.in-Ok-publish.ensures.worlds c.in-Ok-publish.ensures.time)

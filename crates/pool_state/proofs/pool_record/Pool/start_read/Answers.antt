@@ -2,6 +2,7 @@ use Rattle.std.proofs.Common.{refl, sym, ◌∙◌, ap}
 use Rattle.disk_model.proofs.GoingOn.{went_then}
 use Rattle.replica_map.specs.Books.{grown_at}
 use Rattle.pool_state.specs.Books.{entry_state, book_entry, left_at}
+use Rattle.pool_state.proofs.Foreign.{foreign_then}
 use Rattle.pool_state.proofs.Entries.{said_by}
 use Rattle.pool_state.proofs.Showing.{begins, calls, rests}
 use Rattle.pool_state.proofs.Lending.{stands_looked, looked_images, lend_free, lends, looked_for_two}
@@ -56,3 +57,9 @@ returns-in_err-meta-clause-goes_on g c = went_then g.D.PoolDisks _ _ _ c.in_ok-b
 
 pub returns-clause-goes_on : goal.returns-clause-goes_on
 returns-clause-goes_on g c = went_then g.D.PoolDisks _ _ _ c.in_ok-block.ensures.goes_on c.in_ok-meta.ensures.goes_on
+
+pub returns-in_err-meta-clause-foreign : goal.returns-in_err-meta-clause-foreign
+returns-in_err-meta-clause-foreign g c = foreign_then c.in_ok-block.ensures.foreign c.in_err-meta.ensures.foreign
+
+pub returns-clause-foreign : goal.returns-clause-foreign
+returns-clause-foreign g c = foreign_then c.in_ok-block.ensures.foreign c.in_ok-meta.ensures.foreign

@@ -19,6 +19,7 @@ use Rattle.pool_state.specs.Reaching.{Stays, Then}
 use Rattle.pool_state.proofs.Reaching.{reaches_same, reaches_create_at, reaches_created_at, reaches_then}
 use Rattle.pool_state.proofs.Changing.{pool_stands, changed_to, stands_unchanged}
 use Rattle.pool_state.proofs.Entries.{nothing_said, become_alone}
+use Rattle.pool_state.proofs.Foreign.{foreign_created, foreign_then}
 use Rattle.pool_state.proofs.Showing.{begins, calls, shown, stays_passes, passes_end, takes}
 use Rattle.pool_state.proofs.Starting.{refused_books, step_of, waits_passes, start_waits, start_grows, start_free, start_free_meta, is_absent}
 use Rattle.pool_state.specs.Rooms.{choosing_of, room_of}
@@ -334,3 +335,26 @@ returns-clause-books g c =
 pub returns-in-Err-Failed-clause-goes_on : goal.returns-in-Err-Failed-clause-goes_on
 returns-in-Err-Failed-clause-goes_on g c =
     went_call g.D.PoolDisks (g.met.D.PoolDisks.counts_now _) c.in-Err-Failed.ensures.time c.in-Err-Failed.ensures.worlds.honest c.in-Err-Failed.ensures.cause.later c.in-Err-Failed.ensures.absences c.in-Err-Failed.ensures.numbers.later c.in-Err-Failed.ensures.volumes
+
+pub returns-in-Err-Memory-clause-foreign : goal.returns-in-Err-Memory-clause-foreign
+returns-in-Err-Memory-clause-foreign g c =
+    foreign_created c.args.id _ _ WritingBlock c.write_refusal.ensures.valid refl _ (c.as_str.ensures ∙ c.rbw_block.ensures) c.in-Err-Memory.ensures.worlds c.in-Err-Memory.ensures.time
+
+pub returns-in-Err-Failed-clause-foreign : goal.returns-in-Err-Failed-clause-foreign
+returns-in-Err-Failed-clause-foreign g c =
+    foreign_created c.args.id _ _ WritingBlock c.write_refusal.ensures.valid refl _ (c.as_str.ensures ∙ c.rbw_block.ensures) c.in-Err-Failed.ensures.worlds c.in-Err-Failed.ensures.time
+
+pub returns-in-Err-Failed-create-clause-foreign : goal.returns-in-Err-Failed-create-clause-foreign
+returns-in-Err-Failed-create-clause-foreign g c = foreign_then
+    (foreign_created c.args.id _ _ WritingBlock c.write_refusal.ensures.valid refl _ (c.as_str.ensures ∙ c.rbw_block.ensures) c.in-Ok-create.ensures.worlds c.in-Ok-create.ensures.time)
+    (foreign_created c.args.id _ _ (WritingMeta c.args.stamp) c.write_refusal.ensures.valid (is_stamp-IsStamp c.args.stamp c.get-in_range.ensures.in_range) _ (c.as_str-2.ensures ∙ c.rbw_meta.ensures) c.in-Err-Failed-create.ensures.worlds c.in-Err-Failed-create.ensures.time)
+
+pub returns-in-Err-Memory-create-clause-foreign : goal.returns-in-Err-Memory-create-clause-foreign
+returns-in-Err-Memory-create-clause-foreign g c = foreign_then
+    (foreign_created c.args.id _ _ WritingBlock c.write_refusal.ensures.valid refl _ (c.as_str.ensures ∙ c.rbw_block.ensures) c.in-Ok-create.ensures.worlds c.in-Ok-create.ensures.time)
+    (foreign_created c.args.id _ _ (WritingMeta c.args.stamp) c.write_refusal.ensures.valid (is_stamp-IsStamp c.args.stamp c.get-in_range.ensures.in_range) _ (c.as_str-2.ensures ∙ c.rbw_meta.ensures) c.in-Err-Memory-create.ensures.worlds c.in-Err-Memory-create.ensures.time)
+
+pub returns-clause-foreign : goal.returns-clause-foreign
+returns-clause-foreign g c = foreign_then
+    (foreign_created c.args.id _ _ WritingBlock c.write_refusal.ensures.valid refl _ (c.as_str.ensures ∙ c.rbw_block.ensures) c.in-Ok-create.ensures.worlds c.in-Ok-create.ensures.time)
+    (foreign_created c.args.id _ _ (WritingMeta c.args.stamp) c.write_refusal.ensures.valid (is_stamp-IsStamp c.args.stamp c.get-in_range.ensures.in_range) _ (c.as_str-2.ensures ∙ c.rbw_meta.ensures) c.in-Ok-create-2.ensures.worlds c.in-Ok-create-2.ensures.time)

@@ -45,9 +45,6 @@ returns-in-Err-Failed-clause-step g c state standing =
     ])))
     (λ e w. absurd cc) refl refl (λ no. absurd no) refl refl
 
-pub verdict_reply_of-requires : goal.verdict_reply_of-requires
-verdict_reply_of-requires g c = record { not_whole = c.in-Err-Bad.ensures.not_whole c.in-Err-Bad.verdict (ap Err c.in-Err-Bad.field-0-is) }
-
 pub returns-in-Err-Bad-clause-step : goal.returns-in-Err-Bad-clause-step
 returns-in-Err-Bad-clause-step g c state standing =
     let lent = c.in-Ok.ensures.lent _ state.cells standing.pool in
@@ -57,7 +54,7 @@ returns-in-Err-Bad-clause-step g c state standing =
     (crash_rests (c.start_read.ensures.quiet state.cells (loose standing)))
     (content lent.replica)
     (λ trust known. gives_verdict lent (SoundFor c.args.self.now state.cells)
-    e.verdict _ (λ s bytes. c.verdict_reply_of.ensures s bytes) (e.ensures.on_length e.verdict is)
+    e.verdict (e.ensures.not_whole e.verdict is) (e.ensures.on_length e.verdict is)
     (λ sums block_is meta_is few. e.ensures.bad _ sums (record { block_is = block_is; meta_is = meta_is; few = few }) e.verdict is)
     (λ told sound.
     let sound_lent = c.in-Ok.ensures.lent _ state.cells sound in

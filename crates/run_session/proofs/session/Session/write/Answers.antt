@@ -13,6 +13,7 @@ use Rattle.client_ops.proofs.Ending.{ends_as_write}
 use Rattle.run_model.specs.Commands.{FailsBy}
 use Rattle.run_model.specs.State.{Numbers}
 use Rattle.run_session.specs.Standing.{NotGrowing, OpenWriter}
+use Rattle.pool_state.proofs.Foreign.{foreign_then}
 use Rattle.run_session.proofs.Stepping.{loose, with_cell-here, crash_takes, crash_same, goes_on, none_open, carried_same, carried_learning, carried_on, made_number}
 use Rattle.run_session.proofs.Stepped.{start_gives_nothing, says_fault, is_failed, is_memory, write_learns_nothing, write_refused, write_unstarted, faulty_writer, has_meta, write_begins_nothing}
 use Rattle.run_session.proofs.Composing.{safe_then, grows_started, grows_pushed, ended_stands, ended_safe}
@@ -123,3 +124,6 @@ returns-clause-step g c state standing =
 
 pub returns-clause-goes_on : goal.returns-clause-goes_on
 returns-clause-goes_on g c = went_then g.D.PoolDisks _ _ _ c.write_start.ensures.goes_on c.op_end.ensures.goes_on
+
+pub returns-clause-foreign : goal.returns-clause-foreign
+returns-clause-foreign g c = foreign_then c.write_start.ensures.foreign c.op_end.ensures.foreign
